@@ -1,0 +1,287 @@
+-- Document 01, "Cases": P1 to P10 in one table, with one theorem over it. The rows from 11 on are more of document 01's cases
+-- and ours: each tells a wrong rule from the right one.
+-- Assumes nothing.
+use Prim.Native.Nat.{ℕ, zero, suc, _+_, _-_, _*_}
+use Prim.Native.String.{String}
+use mathlib.Core.Path.{_≡_, refl}
+use mathlib.Core.Bool.{Bool, true, false, not}
+use mathlib.Core.List.{List, [], _∷_, map, _++_}
+use lib.ListN.{replicate}
+use Rattle.rules.specs.Fold.{_and_, _or_, mem, every, sumTo, most, maxTo, orElse, firstTo, anyTo, allTo, lesser, leastTo, greater, greatestTo, thoseTo, listTo}
+use Rattle.rules.specs.Refusal.{Refusal, malformed, badSize, badLength, badList, badPlace, noBatch, sheetFull, levelAbove, bufferShort}
+use Rattle.rules.specs.Sheet.{Book, Batch, isBatch, goodInstruments, goodMinutes, isInstrument, distinct, goodList, goodBatch, sound}
+use Rattle.rules.specs.Field.{Field, value, fault, digits, loneZero, blanks, field}
+use Rattle.rules.specs.Read.{Reading, accepted, refusedAt, numberAt, endOfLine, headLine, instrumentsAt, batchLine, batchLines, read}
+use Rattle.rules.specs.Render.{columns, fields, renderBatches, render, fitsBatch, fits}
+use Rattle.rules.specs.Edit.{add, withdraw, requalify, move, kept, edit}
+use Rattle.rules.specs.Load.{load, makespan, longest, total, elsewhere, improvesAt, improves, review}
+use Rattle.rules.specs.Settle.{mover, target, moved, squares, settleBy, settle}
+use Rattle.rules.specs.Trial.{underloaded, overloaded, unplaced, machineArc, jobArc, liftOver, pushOr, deed, jobDeed, machineDeed, someUnderloaded, actMachine, actJob, act, stepsBy, liftBound, pushBound, ended}
+use Rattle.rules.specs.Group.{overflows, reach, reachBy, closure, group, Tried, passed, failed, trial}
+use Rattle.rules.specs.Balance.{searchBy, balance}
+use Rattle.rules.specs.LowerBound.{within, confined, share, lowerBound}
+use Rattle.rules.specs.Plan.{Plan, plan}
+use Rattle.rules.specs.Run.{Call, editing, reviewing, trying, planning, Answer, refused, done, reviewed, tried, planned, answer, next, answers}
+use Rattle.rules.specs.Listing.{batchListing, listing, program, Hosted, host}
+use Rattle.rules.specs.Text.{bytes, lines}
+
+-- ---- the sheets
+
+abbrev p1 : List ℕ
+p1 =
+    lines
+    ("     2     3"
+    ∷ "    30     1     2     1     2"
+    ∷ "    20     1     1     1"
+    ∷ "    10     1     2     1     2"
+    ∷ [])
+
+abbrev p2 : List ℕ
+p2 =
+    lines
+    ("     2     3"
+    ∷ "    10     1     1     1"
+    ∷ "    10     1     1     1"
+    ∷ "    10     1     1     1"
+    ∷ [])
+
+abbrev p3 : List ℕ
+p3 = lines ("     2     0" ∷ [])
+
+abbrev p4 : List ℕ
+p4 = lines ("     1     1" ∷ "  1440     1     1     1" ∷ [])
+
+abbrev p5 : List ℕ
+p5 =
+    lines
+    ("     2     3"
+    ∷ "    20     1     1     1"
+    ∷ "    10     1     2     1     2"
+    ∷ "    20     2     1     2"
+    ∷ [])
+
+abbrev p6 : List ℕ
+p6 =
+    lines
+    ("     2     3"
+    ∷ "    21     1     1     1"
+    ∷ "    10     1     2     1     2"
+    ∷ "    20     2     1     2"
+    ∷ [])
+
+-- one instrument, so no trial below its load leaves an underloaded one
+abbrev alone : List ℕ
+alone =
+    lines
+    ("     1     3"
+    ∷ "    10     0     1     1"
+    ∷ "    10     0     1     1"
+    ∷ "    10     0     1     1"
+    ∷ [])
+
+-- the longest batch is not on instrument 1
+abbrev apart : List ℕ
+apart = lines ("     2     2" ∷ "     5     1     1     1" ∷ "    30     2     1     2" ∷ [])
+
+-- level 1 fails, and level 2 passes with steps of its own only from the standing assignment
+abbrev again : List ℕ
+again =
+    lines
+    ("     2     3"
+    ∷ "     3     1     2     1     2"
+    ∷ "     4     1     1     1"
+    ∷ "     2     1     1     1"
+    ∷ [])
+
+-- level 0 passes, 1 fails, 2 passes
+abbrev uneven : List ℕ
+uneven =
+    lines
+    ("     3     4"
+    ∷ "     4     2     3     1     2     3"
+    ∷ "     2     2     2     1     2"
+    ∷ "     2     1     2     1     2"
+    ∷ "     3     1     3     1     2     3"
+    ∷ [])
+
+-- every trial that passes leaves the standing assignment, and settling then makes two moves
+abbrev unsettled : List ℕ
+unsettled =
+    lines
+    ("     2     4"
+    ∷ "     2     2     1     2"
+    ∷ "     4     1     2     2     1"
+    ∷ "     5     1     2     2     1"
+    ∷ "     2     2     2     1     2"
+    ∷ [])
+
+-- ---- what is asked, and what is said
+
+data Ask : Type 0 where
+  -- a field at the front of a text
+  fieldOf : String → Ask
+  -- a file
+  reading : List ℕ → Ask
+  -- a file, written back with its places as given
+  writing : List ℕ → Ask
+  -- a file, through the program
+  printing : List ℕ → Ask
+  -- a file and a buffer, through the host's call
+  hosting : List ℕ → List ℕ → Ask
+  -- calls in a row, on the sheet of a file
+  calling : List ℕ → List Call → Ask
+
+data Said : Type 0 where
+  fieldSaid : Field → Said
+  readingSaid : Reading → Said
+  written : List ℕ → Said
+  printed : List ℕ → Said
+  hosted : Hosted → Said
+  answered : List Answer → Said
+  noSheet : Said
+
+abbrev callsOn : Reading → List Call → Said
+callsOn (accepted k) cs = answered (answers k cs)
+callsOn (refusedAt e j) cs = noSheet
+
+abbrev writtenOf : Reading → Said
+writtenOf (accepted k) = written (render k)
+writtenOf (refusedAt e j) = noSheet
+
+abbrev say : Ask → Said
+say (fieldOf s) = fieldSaid (field (bytes s))
+say (reading s) = readingSaid (read s)
+say (writing s) = writtenOf (read s)
+say (printing s) = printed (program s)
+say (hosting s b) = hosted (host s b)
+say (calling s cs) = callsOn (read s) cs
+
+-- a row: the case's number in document 01, what is asked, and what is to be said
+record Row : Type 0 where
+  name : ℕ
+  ask : Ask
+  says : Said
+
+abbrev row : ℕ → Ask → Said → Row
+row k a s = record { name = k; ask = a; says = s }
+
+abbrev planSaid : ℕ → ℕ → ℕ → ℕ → ℕ → ℕ → List ℕ → List ℕ → Answer
+planSaid f lb a r b v g x =
+    planned (record { makespan = f; lowerBound = lb; level = a; lifts = r; pushes = b; moves = v; group = g; assignment = x })
+
+abbrev reviewSaid : List ℕ → ℕ → ℕ → Answer
+reviewSaid l f b = reviewed (record { loads = l; makespan = f; improving = b })
+
+abbrev batchOf : ℕ → List ℕ → ℕ → Batch
+batchOf t l p = record { minutes = t; list = l; place = p }
+
+table : List Row
+table =
+    row 1 (printing p1)
+    (printed
+    (lines
+    ("    30    30     0     2     2           0"
+    ∷ "     0"
+    ∷ "     1     2    30"
+    ∷ "     2     1    20"
+    ∷ "     3     1    10"
+    ∷ [])))
+    ∷ row 2 (calling p2 (planning ∷ [])) (answered (planSaid 30 30 20 0 0 0 (1 ∷ []) (1 ∷ 1 ∷ 1 ∷ []) ∷ []))
+    ∷ row 3 (calling p3 (planning ∷ [])) (answered (planSaid 0 0 0 0 0 0 [] [] ∷ []))
+    ∷ row 4 (calling p4 (planning ∷ [])) (answered (planSaid 1440 1440 0 0 0 0 [] (1 ∷ []) ∷ []))
+    ∷ row 5 (calling p5 (reviewing ∷ [])) (answered (reviewSaid (30 ∷ 20 ∷ []) 30 0 ∷ []))
+    ∷ row 6 (calling p6 (reviewing ∷ [])) (answered (reviewSaid (31 ∷ 20 ∷ []) 31 2 ∷ []))
+    ∷ row 7 (calling p1 (trying 0 ∷ [])) (answered (tried (passed (2 ∷ 1 ∷ 1 ∷ []) 2 2) ∷ []))
+    ∷ row 8 (calling p2 (trying 19 ∷ trying 20 ∷ []))
+    (answered (tried (failed (1 ∷ []) 9 12) ∷ tried (passed (1 ∷ 1 ∷ 1 ∷ []) 0 0) ∷ []))
+    ∷ row 9 (fieldOf "    07") (fieldSaid fault)
+    ∷ row 9 (fieldOf "     0") (fieldSaid (value 0))
+    ∷ row 10 (reading p4) (readingSaid (accepted (record { m = 1; batches = batchOf 1440 (1 ∷ []) 1 ∷ [] })))
+    ∷ row 10 (reading (lines ("     1     1" ∷ "  1441     1     1     1" ∷ []))) (readingSaid (refusedAt badLength 2))
+    -- more of reading
+    ∷ row 11 (reading []) (readingSaid (refusedAt malformed 1))
+    ∷ row 11 (reading (p3 ++ (32 ∷ []))) (readingSaid (refusedAt malformed 2))
+    ∷ row 11 (reading (lines ("     2   201" ∷ []))) (readingSaid (refusedAt badSize 1))
+    ∷ row 11 (reading (lines ("     2     1" ∷ "    10     3     2     1     1" ∷ []))) (readingSaid (refusedAt badList 2))
+    ∷ row 11 (reading (lines ("     2     1" ∷ "    10     3     2     1     2 " ∷ []))) (readingSaid (refusedAt malformed 2))
+    ∷ row 11 (reading (lines ("     2     1" ∷ "    10     3     2     1     2" ∷ "x" ∷ []))) (readingSaid (refusedAt badPlace 2))
+    ∷ row 11 (reading (lines ("     2     1" ∷ "    10     2     1     1" ∷ []))) (readingSaid (refusedAt badPlace 2))
+    ∷ row 11 (reading (lines ("     2     1" ∷ "    10     0     2     2     1" ∷ [])))
+    (readingSaid (accepted (record { m = 2; batches = batchOf 10 (2 ∷ 1 ∷ []) 2 ∷ [] })))
+    ∷ row 12 (writing p1) (written p1)
+    -- more of trials and planning
+    ∷ row 13 (calling alone (trying 0 ∷ trying 20 ∷ trying 30 ∷ trying 31 ∷ []))
+    (answered
+    (tried (failed (1 ∷ []) 0 0)
+    ∷ tried (passed (1 ∷ 1 ∷ 1 ∷ []) 0 0)
+    ∷ tried (passed (1 ∷ 1 ∷ 1 ∷ []) 0 0)
+    ∷ refused levelAbove
+    ∷ []))
+    ∷ row 14 (calling apart (planning ∷ [])) (answered (planSaid 30 30 0 0 0 0 [] (1 ∷ 2 ∷ []) ∷ []))
+    ∷ row 15 (calling again (planning ∷ [])) (answered (planSaid 6 5 2 2 2 0 (1 ∷ 2 ∷ []) (2 ∷ 1 ∷ 1 ∷ []) ∷ []))
+    ∷ row 16 (calling uneven (trying 0 ∷ trying 1 ∷ trying 2 ∷ []))
+    (answered
+    (tried (passed (3 ∷ 2 ∷ 2 ∷ 1 ∷ []) 4 4)
+    ∷ tried (failed (1 ∷ 2 ∷ 3 ∷ []) 5 6)
+    ∷ tried (passed (2 ∷ 2 ∷ 1 ∷ 1 ∷ []) 0 0)
+    ∷ []))
+    ∷ row 17 (calling unsettled (reviewing ∷ planning ∷ reviewing ∷ []))
+    (answered
+    (reviewSaid (9 ∷ 4 ∷ []) 9 2
+    ∷ planSaid 7 7 4 0 0 2 (1 ∷ 2 ∷ []) (2 ∷ 2 ∷ 1 ∷ 1 ∷ [])
+    ∷ reviewSaid (7 ∷ 6 ∷ []) 7 0
+    ∷ []))
+    -- edits in a row, each refusal once
+    ∷ row 18 (calling p1
+    (editing (withdraw 0)
+    ∷ editing (withdraw 4)
+    ∷ editing (withdraw 1)
+    ∷ editing (move 2 0)
+    ∷ editing (move 3 9)
+    ∷ editing (move 2 2)
+    ∷ editing (requalify 2 (1 ∷ 1 ∷ []))
+    ∷ editing (requalify 3 [])
+    ∷ editing (requalify 2 (1 ∷ []))
+    ∷ editing (add 0 [])
+    ∷ editing (add 7 (3 ∷ []))
+    ∷ editing (add 7 (2 ∷ 1 ∷ []))
+    ∷ reviewing
+    ∷ []))
+    (answered
+    (refused noBatch
+    ∷ refused noBatch
+    ∷ done
+    ∷ refused badPlace
+    ∷ refused noBatch
+    ∷ done
+    ∷ refused badList
+    ∷ refused noBatch
+    ∷ done
+    ∷ refused badLength
+    ∷ refused badList
+    ∷ done
+    ∷ reviewSaid (30 ∷ 7 ∷ []) 30 0
+    ∷ []))
+    -- the host's buffer
+    ∷ row 19 (hosting p3 (replicate 49 1)) (hosted (record { refusal = 9; line = 0; length = 0; buffer = replicate 49 1 }))
+    ∷ row 19 (hosting p3 (replicate 51 1))
+    (hosted (record {
+      refusal = 0;
+      line = 0;
+      length = 50;
+      buffer = lines ("     0     0     0     0     0           0" ∷ "     0" ∷ []) ++ (1 ∷ []);
+    }))
+    ∷ row 19 (hosting [] []) (hosted (record { refusal = 1; line = 1; length = 0; buffer = [] }))
+    ∷ row 19 (printing []) (printed (lines ("     1     1" ∷ [])))
+    ∷ []
+
+abbrev asked : List Row → List Said
+asked t = map (λ (r : Row). say (r .ask)) t
+
+abbrev said : List Row → List Said
+said t = map (λ (r : Row). r .says) t
+
+-- the rules say what the table says
+cases : asked table ≡ said table
+unfolding table bytes lines _and_ _or_ mem every sumTo most maxTo orElse firstTo anyTo allTo lesser leastTo greater greatestTo thoseTo listTo isBatch goodInstruments goodMinutes isInstrument distinct goodList goodBatch sound digits loneZero blanks field numberAt endOfLine headLine instrumentsAt batchLine batchLines read columns fields renderBatches render fitsBatch fits kept edit load makespan longest total elsewhere improvesAt improves review mover target moved squares settleBy settle underloaded overloaded unplaced machineArc jobArc liftOver pushOr deed jobDeed machineDeed someUnderloaded actMachine actJob act stepsBy liftBound pushBound ended overflows reach reachBy closure group trial searchBy balance within confined share lowerBound plan answer next answers batchListing listing program host
+cases = refl

@@ -1,0 +1,55 @@
+-- What the mathematics sees of a book: an instance (source document 000, section 2, with users as jobs and links as
+-- machines) and an assignment. All rules on loads, trials and planning go by these two alone.
+-- Assumes nothing.
+use Prim.Native.Nat.{ℕ, zero, suc}
+use mathlib.Core.Bool.{Bool}
+use mathlib.Core.List.{List, [], _∷_, map}
+use lib.ListN.{length, getD}
+use Rattle.rules.specs.Fold.{mem}
+use Rattle.rules.specs.Sheet.{Book, Batch}
+
+-- a job: a length, and the machines that may run it (document 01: qualified)
+pub record Job : Type 0 where
+  pub minutes : ℕ
+  pub list : List ℕ
+
+-- m machines and the jobs, all numbered from 1
+pub record Instance : Type 0 where
+  pub m : ℕ
+  pub jobs : List Job
+
+-- the machine of each job in order, 0 for none (document 01: a placement)
+abbrev pub Assignment : Type 0
+Assignment = List ℕ
+
+abbrev pub n : Instance → ℕ
+n I = length (I .jobs)
+
+abbrev pub noJob : Job
+noJob = record { minutes = 0; list = [] }
+
+-- job number b
+abbrev pub job : Instance → ℕ → Job
+job I zero = noJob
+job I (suc b) = getD (I .jobs) b noJob
+
+abbrev pub minutesOf : Instance → ℕ → ℕ
+minutesOf I b = job I b .minutes
+
+abbrev pub listOf : Instance → ℕ → List ℕ
+listOf I b = job I b .list
+
+-- machine i may run job b
+abbrev pub eligible : Instance → ℕ → ℕ → Bool
+eligible I b i = mem i (listOf I b)
+
+-- ---- the two sides of a book
+
+abbrev pub jobOf : Batch → Job
+jobOf b = record { minutes = b .minutes; list = b .list }
+
+abbrev pub instance : Book → Instance
+instance k = record { m = k .m; jobs = map jobOf (k .batches) }
+
+abbrev pub places : Book → Assignment
+places k = map (λ (b : Batch). b .place) (k .batches)

@@ -1,0 +1,29 @@
+-- Document 01 as definitions, one module for each idea, in document 01's order:
+--   The sheet          Sheet, Field, Read, Render, Edit
+--   Refusals           Refusal (the numbers; each rule names its own where it is judged)
+--   Loads and settling Instance, Load, Settle
+--   One trial          Trial, Group
+--   Planning           Balance, LowerBound, Plan
+--   Runs               Run
+--   The listing        Listing
+--   Cases              Cases
+-- Fold has the lists by number and the folds over 1 to k that all of them use.
+pub mod Fold
+pub mod Refusal
+pub mod Sheet
+pub mod Field
+pub mod Read
+pub mod Render
+pub mod Edit
+pub mod Instance
+pub mod Load
+pub mod Settle
+pub mod Trial
+pub mod Group
+pub mod Balance
+pub mod LowerBound
+pub mod Plan
+pub mod Run
+pub mod Listing
+pub mod Text
+pub mod Cases

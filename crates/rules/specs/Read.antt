@@ -1,0 +1,106 @@
+-- Document 01, "The sheet": reading goes from the front, and the first fault met decides.
+-- Assumes nothing.
+use Prim.Native.Nat.{ℕ, zero, suc}
+use mathlib.Core.Bool.{Bool, true, false, not}
+use mathlib.Core.List.{List, [], _∷_, _++_}
+use lib.ListN.{length, drop}
+use lib.Dec.{leb, eqb}
+use Rattle.rules.specs.Fold.{_and_, _or_, pick, mem}
+use Rattle.rules.specs.Refusal.{Refusal, malformed, badSize, badLength, badList, badPlace, number}
+use Rattle.rules.specs.Sheet.{Book, Batch, maxBatches, goodInstruments, goodMinutes, isInstrument, head}
+use Rattle.rules.specs.Field.{Field, value, fault, field, fieldWidth}
+
+-- ---- a part of a sheet: what it gives, with the rest of the bytes, or a refusal
+
+pub data Part (X : Type 0) : Type 0 where
+  gives : X → List ℕ → Part X
+  refuses : Refusal → Part X
+
+-- go on with what the part before gave
+abbrev pub andThen : {X Y : Type 0} → Part X → (X → List ℕ → Part Y) → Part Y
+andThen (gives x r) next = next x r
+andThen (refuses e) next = refuses e
+
+-- go on where the test passes; the refusal otherwise
+abbrev pub orRefuse : {X : Type 0} → Bool → Refusal → Part X → Part X
+orRefuse true e p = p
+orRefuse false e p = refuses e
+
+abbrev pub fieldPart : Field → List ℕ → Part ℕ
+fieldPart (value v) r = gives v r
+fieldPart fault r = refuses malformed
+
+-- a number, in the next field
+unfoldable pub numberAt : List ℕ → Part ℕ
+numberAt r = fieldPart (field r) (drop fieldWidth r)
+
+-- the byte LF, which ends a line
+unfoldable pub endOfLine : {X : Type 0} → List ℕ → (List ℕ → Part X) → Part X
+endOfLine [] next = refuses malformed
+endOfLine (x ∷ r) next = orRefuse (eqb x 10) malformed (next r)
+
+-- ---- line 1: m and n
+
+pub record Head : Type 0 where
+  pub m : ℕ
+  pub n : ℕ
+
+unfoldable pub headLine : List ℕ → Part Head
+headLine s =
+    andThen (numberAt s) (λ m r₁.
+    orRefuse (goodInstruments m) badSize
+    (andThen (numberAt r₁) (λ n r₂.
+    orRefuse (leb n maxBatches) badSize
+    (endOfLine r₂ (λ r₃. gives (record { m = m; n = n }) r₃)))))
+
+-- ---- a batch line: length, place, how many instruments, and those instruments
+
+-- c more instruments after those of l. Each is judged at its own field: it is one of 1 to m, and not in l already.
+unfoldable pub instrumentsAt : ℕ → ℕ → List ℕ → List ℕ → Part (List ℕ)
+instrumentsAt m zero l r = gives l r
+instrumentsAt m (suc c) l r =
+    andThen (numberAt r) (λ i r₁.
+    orRefuse (isInstrument m i and not (mem i l)) badList
+    (instrumentsAt m c (l ++ (i ∷ [])) r₁))
+
+-- place 0 is none given: the first listed is taken
+abbrev pub placeOr : ℕ → List ℕ → ℕ
+placeOr zero l = head l
+placeOr (suc p) l = suc p
+
+-- a field's range is judged before the next field; the place is judged last, after the line's LF
+unfoldable pub batchLine : ℕ → List ℕ → Part Batch
+batchLine m r =
+    andThen (numberAt r) (λ t r₁.
+    orRefuse (goodMinutes t) badLength
+    (andThen (numberAt r₁) (λ p r₂.
+    andThen (numberAt r₂) (λ c r₃.
+    orRefuse (leb 1 c and leb c m) badList
+    (andThen (instrumentsAt m c [] r₃) (λ l r₄.
+    endOfLine r₄ (λ r₅.
+    orRefuse (eqb p 0 or mem p l) badPlace
+    (gives (record { minutes = t; list = l; place = placeOr p l }) r₅))))))))
+
+-- ---- a whole sheet: its book, or a refusal with its line
+
+pub data Reading : Type 0 where
+  accepted : Book → Reading
+  refusedAt : Refusal → ℕ → Reading
+
+abbrev pub onLine : {X : Type 0} → ℕ → Part X → (X → List ℕ → Reading) → Reading
+onLine j (gives x r) next = next x r
+onLine j (refuses e) next = refusedAt e j
+
+-- c more batch lines, the next of which is line j, after the batches bs; then nothing may follow
+unfoldable pub batchLines : ℕ → ℕ → ℕ → List Batch → List ℕ → Reading
+batchLines m zero j bs [] = accepted (record { m = m; batches = bs })
+batchLines m zero j bs (x ∷ r) = refusedAt malformed j
+batchLines m (suc c) j bs r = onLine j (batchLine m r) (λ b r₁. batchLines m c (suc j) (bs ++ (b ∷ [])) r₁)
+
+unfoldable pub read : List ℕ → Reading
+read s = onLine 1 (headLine s) (λ h r. batchLines (h .m) (h .n) 2 [] r)
+
+-- a reading as numbers: the refusal and its line, 0 and 0 for none
+abbrev pub readingNumbers : Reading → List ℕ
+readingNumbers (accepted k) = 0 ∷ 0 ∷ []
+readingNumbers (refusedAt e j) = number e ∷ j ∷ []

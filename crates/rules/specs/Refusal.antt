@@ -1,0 +1,28 @@
+-- Document 01, "Refusals": each refusal by name, and its number.
+-- Assumes nothing.
+use Prim.Native.Nat.{ℕ}
+
+pub data Refusal : Type 0 where
+  -- whoever wrote the sheet
+  malformed : Refusal
+  badSize : Refusal
+  badLength : Refusal
+  badList : Refusal
+  badPlace : Refusal
+  -- whoever edits
+  noBatch : Refusal
+  sheetFull : Refusal
+  -- the host program
+  levelAbove : Refusal
+  bufferShort : Refusal
+
+abbrev pub number : Refusal → ℕ
+number malformed = 1
+number badSize = 2
+number badLength = 3
+number badList = 4
+number badPlace = 5
+number noBatch = 6
+number sheetFull = 7
+number levelAbove = 8
+number bufferShort = 9

@@ -1,0 +1,80 @@
+-- Document 01, "The sheet" and "Runs": the limits, the book that says what a sheet holds, and when a book is sound.
+-- Assumes nothing.
+use Prim.Native.Nat.{ℕ, zero, suc}
+use mathlib.Core.Bool.{Bool, true, false, not}
+use mathlib.Core.List.{List, [], _∷_}
+use lib.ListN.{length, getD}
+use lib.Dec.{leb}
+use Rattle.rules.specs.Fold.{_and_, mem, every}
+
+-- ---- the limits
+
+abbrev pub maxInstruments : ℕ
+maxInstruments = 24
+
+abbrev pub maxBatches : ℕ
+maxBatches = 200
+
+abbrev pub maxMinutes : ℕ
+maxMinutes = 1440
+
+-- ---- the book
+
+-- a batch: its length in minutes, the instruments that may run it in the order given, and the instrument it is on
+pub record Batch : Type 0 where
+  pub minutes : ℕ
+  pub list : List ℕ
+  pub place : ℕ
+
+-- m instruments, numbered from 1, and the batches, numbered from 1 in this order
+pub record Book : Type 0 where
+  pub m : ℕ
+  pub batches : List Batch
+
+-- how many batches
+abbrev pub size : Book → ℕ
+size k = length (k .batches)
+
+abbrev pub noBatchHere : Batch
+noBatchHere = record { minutes = 0; list = []; place = 0 }
+
+-- batch number b
+abbrev pub batch : Book → ℕ → Batch
+batch k zero = noBatchHere
+batch k (suc b) = getD (k .batches) b noBatchHere
+
+-- there is a batch of number b
+unfoldable pub isBatch : Book → ℕ → Bool
+isBatch k b = leb 1 b and leb b (size k)
+
+-- the first listed
+abbrev pub head : List ℕ → ℕ
+head l = getD l 0 0
+
+-- ---- what the limits and the form ask of each part
+
+unfoldable pub goodInstruments : ℕ → Bool
+goodInstruments m = leb 1 m and leb m maxInstruments
+
+unfoldable pub goodMinutes : ℕ → Bool
+goodMinutes t = leb 1 t and leb t maxMinutes
+
+-- i is one of the instruments 1 to m
+unfoldable pub isInstrument : ℕ → ℕ → Bool
+isInstrument m i = leb 1 i and leb i m
+
+-- no number twice
+unfoldable pub distinct : List ℕ → Bool
+distinct [] = true
+distinct (x ∷ xs) = not (mem x xs) and distinct xs
+
+-- a list of qualified instruments: not empty, at most m long, each an instrument, none twice
+unfoldable pub goodList : ℕ → List ℕ → Bool
+goodList m l = leb 1 (length l) and leb (length l) m and every (isInstrument m) l and distinct l
+
+unfoldable pub goodBatch : ℕ → Batch → Bool
+goodBatch m b = goodMinutes (b .minutes) and goodList m (b .list) and mem (b .place) (b .list)
+
+-- what every sheet's book meets: all limits, and each batch on an instrument of its list
+unfoldable pub sound : Book → Bool
+sound k = goodInstruments (k .m) and leb (size k) maxBatches and every (goodBatch (k .m)) (k .batches)

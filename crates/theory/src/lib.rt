@@ -1,0 +1,1 @@
+// What is true of the rules, as theorems in proofs/. There is no code here.

@@ -1,0 +1,39 @@
+#!/usr/bin/env bash
+# Every test of this repository, from nothing: layout, proofs, must-fail edits, programs, and the Rust tests.
+# It stops at the first failure. Its last line is that of `rt ci`: 'N passed, 0 failed'.
+set -euo pipefail
+cd "$(dirname "$0")/.."
+
+missing() {
+    echo "missing: $1" >&2
+    exit 1
+}
+
+# Debian's package $2 for the command $1, where we may install it
+need() {
+    command -v "$1" >/dev/null 2>&1 && return 0
+    if [ "$(id -u)" = 0 ] && command -v apt-get >/dev/null 2>&1; then
+        echo "installing $2"
+        apt-get update -qq && apt-get install -y -qq "$2" >/dev/null || true
+    fi
+    command -v "$1" >/dev/null 2>&1 || missing "the command $1 (Debian's package $2)"
+}
+
+command -v rt >/dev/null 2>&1 || missing "the Rattle kit: its command rt is not on the PATH"
+need cargo cargo
+need rustc rustc
+
+echo "== layout"
+rt fmt --check
+
+echo "== proofs, must-fail edits and programs"
+log=$(mktemp)
+trap 'rm -f "$log"' EXIT
+rt ci 2>&1 | tee "$log"
+verdict=$(tail -n 1 "$log")
+[[ $verdict =~ ^[1-9][0-9]*\ passed,\ 0\ failed$ ]] || missing "rt ci's verdict; its last line was: $verdict"
+
+echo "== tests in Rust"
+(cd tests && cargo test --offline --quiet)
+
+echo "$verdict"

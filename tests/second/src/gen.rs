@@ -1,0 +1,259 @@
+//! Seeded sheets, damaged files, runs, and sheets that make a trial sweat.
+
+use crate::draft::{Draft, Line};
+use crate::rng::Rng;
+use crate::run::Call;
+use crate::sheet::Sheet;
+
+/// Ranges to draw a sheet from, both ends included.
+#[derive(Clone, Copy, Debug)]
+pub struct Shape {
+    pub instruments: (u32, u32),
+    pub batches: (u32, u32),
+    pub lengths: (u32, u32),
+}
+
+/// Few enough plans to look at all of them.
+pub const SMALL: Shape = Shape {
+    instruments: (1, 4),
+    batches: (0, 6),
+    lengths: (1, 9),
+};
+
+/// Large enough for long chains, small enough for the plain version.
+pub const MEDIUM: Shape = Shape {
+    instruments: (1, 9),
+    batches: (0, 30),
+    lengths: (1, 60),
+};
+
+/// Anything within the limits.
+pub const FULL: Shape = Shape {
+    instruments: (1, 24),
+    batches: (0, 200),
+    lengths: (1, 1440),
+};
+
+/// As large as the limits allow.
+pub const LARGE: Shape = Shape {
+    instruments: (24, 24),
+    batches: (200, 200),
+    lengths: (1, 1440),
+};
+
+/// A sound list of instruments, in any order.
+pub fn list(rng: &mut Rng, m: u32, count: u32) -> Vec<u32> {
+    let mut all: Vec<u32> = (1..=m).collect();
+    rng.shuffle(&mut all);
+    all.truncate(count as usize);
+    all
+}
+
+/// A sound draft: how lists, lengths and places lean differs from one to the next.
+pub fn draft(rng: &mut Rng, shape: Shape) -> Draft {
+    let m = rng.within(shape.instruments.0, shape.instruments.1);
+    let n = rng.within(shape.batches.0, shape.batches.1);
+    let (shortest, longest) = shape.lengths;
+    let lists = rng.below(4);
+    let lengths = rng.below(4);
+    let places = rng.below(4);
+    let usual = rng.within(shortest, longest);
+    let lines = (0..n).map(|_| {
+        let count = match lists {
+            0 => rng.within(1, m),
+            1 => rng.within(1, m.min(3)),
+            2 if rng.once_in(2) => 1,
+            _ => m - rng.within(0, (m - 1).min(1)),
+        };
+        let list = list(rng, m, count);
+        let length = match lengths {
+            0 => usual,
+            1 if rng.once_in(2) => longest,
+            2 if !rng.once_in(4) => rng.within(shortest, shortest.midpoint(longest).min(shortest + 3)),
+            _ => rng.within(shortest, longest),
+        };
+        let place = match places {
+            0 => *list.iter().min().unwrap(),
+            1 => 0,
+            2 if rng.once_in(3) => 0,
+            _ => *rng.pick(&list),
+        };
+        Line { length, place, list }
+    });
+    Draft {
+        instruments: m,
+        lines: lines.collect(),
+    }
+}
+
+/// A sound sheet.
+pub fn sheet(rng: &mut Rng, shape: Shape) -> Sheet {
+    draft(rng, shape).sheet()
+}
+
+/// Numbers that sit at the edges of what a file may hold.
+const EDGES: [u32; 16] = [
+    0, 1, 2, 3, 7, 23, 24, 25, 199, 200, 201, 1439, 1440, 1441, 100_000, 999_999,
+];
+
+/// Spoil a file in one place. Now and then the result is still sound.
+pub fn damage(rng: &mut Rng, file: &mut Vec<u8>) {
+    const BYTES: [u8; 14] = *b" 0123459\n\t\r-x\0";
+    let len = file.len() as u64;
+    match rng.below(8) {
+        0 => file.truncate(rng.below(len + 1) as usize),
+        1 => {
+            for _ in 0..rng.within(1, 7) {
+                let byte = *rng.pick(&BYTES);
+                file.push(byte);
+            }
+        }
+        2 => {
+            let byte = *rng.pick(&BYTES);
+            file.insert(rng.below(len + 1) as usize, byte);
+        }
+        3 if len > 0 => {
+            file.remove(rng.below(len) as usize);
+        }
+        4 if len > 0 => {
+            let byte = rng.next_u64() as u8;
+            file[rng.below(len) as usize] = byte;
+        }
+        5 if len > 0 => {
+            let byte = *rng.pick(&BYTES);
+            file[rng.below(len) as usize] = byte;
+        }
+        _ => {
+            // Another number in some field.
+            let starts: Vec<usize> = fields(file);
+            if starts.is_empty() {
+                return;
+            }
+            let start = *rng.pick(&starts);
+            let value = match rng.below(3) {
+                0 => *rng.pick(&EDGES),
+                1 => rng.within(0, 30),
+                _ => rng.within(0, 1500),
+            };
+            file[start..start + 6].copy_from_slice(format!("{value:>6}").as_bytes());
+        }
+    }
+}
+
+/// Where whole fields start in a file that keeps to six columns.
+pub fn fields(file: &[u8]) -> Vec<usize> {
+    let mut starts = Vec::new();
+    let mut at = 0;
+    for line in file.split_inclusive(|&b| b == b'\n') {
+        starts.extend((0..line.len() / 6).map(|k| at + 6 * k));
+        at += line.len();
+    }
+    starts
+}
+
+fn edge_or(rng: &mut Rng, usual: u64) -> u64 {
+    match rng.below(12) {
+        0 => u64::MAX - rng.below(3),
+        1 => u32::MAX as u64 + rng.below(3),
+        2 => 256 + rng.below(3),
+        3 => *rng.pick(&EDGES) as u64,
+        _ => usual,
+    }
+}
+
+/// A list for an edit, most often a sound one.
+pub fn call_list(rng: &mut Rng, m: u32) -> Vec<u64> {
+    let count = rng.within(1, m);
+    let mut list: Vec<u64> = list(rng, m, count).into_iter().map(u64::from).collect();
+    match rng.below(12) {
+        0 => list.clear(),
+        1 => {
+            let again = *rng.pick(&list);
+            list.push(again);
+        }
+        2 => {
+            let k = rng.below(list.len() as u64) as usize;
+            list[k] = edge_or(rng, 0);
+        }
+        3 => list = (0..m as u64 + 1 + rng.below(3)).collect(),
+        _ => {}
+    }
+    list
+}
+
+/// Calls of every kind with arguments good and bad, meant for a sheet of `m`
+/// instruments that starts with `n` batches of lengths up to `longest`.
+pub fn calls(rng: &mut Rng, m: u32, n: u32, longest: u32, count: usize) -> Vec<Call> {
+    // A rough count of batches keeps most numbers in range.
+    let mut n = n as u64;
+    let mut calls = Vec::with_capacity(count);
+    for _ in 0..count {
+        let usual = rng.below(n + 2);
+        let number = edge_or(rng, usual);
+        calls.push(match rng.below(12) {
+            0..=2 => {
+                n = (n + 1).min(Sheet::BATCHES as u64);
+                let usual = rng.within(1, longest) as u64;
+                Call::Add {
+                    length: edge_or(rng, usual),
+                    list: call_list(rng, m),
+                }
+            }
+            3 => {
+                n = n.saturating_sub(1);
+                Call::Withdraw { number }
+            }
+            4 | 5 => Call::Requalify {
+                number,
+                list: call_list(rng, m),
+            },
+            6 | 7 => {
+                let usual = rng.below(m as u64 + 2);
+                Call::Move {
+                    number,
+                    instrument: edge_or(rng, usual),
+                }
+            }
+            8 => Call::Review,
+            9 | 10 => {
+                let usual = rng.below(n * longest as u64 / 2 + 2);
+                Call::Trial {
+                    level: edge_or(rng, usual),
+                }
+            }
+            _ => Call::Plan,
+        });
+    }
+    calls
+}
+
+/// A sheet at the limits on which trials make very many steps.
+///
+/// The last instrument is empty and nothing can go there, so a trial never
+/// runs out of underloaded instruments. Each of the others has a long batch
+/// that cannot leave it. One or two more long batches are free and fit
+/// nowhere, and to reach them an instrument must first push off all of the
+/// minute-long batches, which have lower numbers.
+pub fn hard(seed: u64) -> Sheet {
+    let mut rng = Rng::new(seed);
+    let m = Sheet::INSTRUMENTS as u32;
+    let open: Vec<u32> = (1..m).collect();
+    let long = rng.within(Sheet::LENGTH - 40, Sheet::LENGTH);
+    let free = rng.within(1, 3);
+    let fixed = m - 1;
+    let short = Sheet::BATCHES as u32 - fixed - free;
+    let line = |length, place, list: &[u32]| Line {
+        length,
+        place,
+        list: list.to_vec(),
+    };
+    let mut lines = Vec::with_capacity(Sheet::BATCHES);
+    lines.extend(open.iter().map(|&j| line(long, j, &[j])));
+    lines.extend((0..short).map(|_| line(1, 1, &open)));
+    lines.extend((0..free).map(|_| line(long, 1, &open)));
+    Draft {
+        instruments: m,
+        lines,
+    }
+    .sheet()
+}
