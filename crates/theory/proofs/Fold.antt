@@ -1,4 +1,4 @@
--- Laws of lists by number from 1 and of the folds overloaded 1 to k.
+-- Laws of lists by number from 1 and of the folds over 1 to k.
 -- Assumes nothing.
 use Prim.Native.Nat.{ℕ, zero, suc, _+_, _-_, _*_, _≤_, _<_, zero-le, suc-le-suc}
 use mathlib.Core.Path.{_≡_, refl, sym, ap, ap₂, _∙_}
@@ -60,7 +60,7 @@ sumTo-mono (suc k) f g h =
     let r = sumTo-mono k f g (λ i p q. h i p (omega arith)) in
     omega (arith, h (suc k) (omega arith) (le-refl (suc k)))
 
--- no part falls, and part b reach
+-- no part falls, and part b grows
 pub sumTo-gain : (k : ℕ) (f g : ℕ → ℕ) (b : ℕ) → 0 < b → b ≤ k → ((i : ℕ) → 0 < i → i ≤ k → f i ≤ g i) → f b < g b → sumTo k f < sumTo k g
 unfolding sumTo
 sumTo-gain zero f g b p q h e = absurd (omega arith)
@@ -117,3 +117,19 @@ sumTo-swap (suc m) k f =
 pub sumTo-pick : (t : Bool) (k : ℕ) (f : ℕ → ℕ) → pick t (sumTo k f) 0 ≡ sumTo k (λ b. pick t (f b) 0)
 sumTo-pick true k f = refl
 sumTo-pick false k f = sym (sumTo-zero k (λ b. 0) (λ i p q. refl))
+
+-- no part falls, and part b grows by c or more
+pub sumTo-gain-by : (k : ℕ) (f g : ℕ → ℕ) (b c : ℕ) → 0 < b → b ≤ k → ((i : ℕ) → 0 < i → i ≤ k → f i ≤ g i) → f b + c ≤ g b
+    → sumTo k f + c ≤ sumTo k g
+unfolding sumTo
+sumTo-gain-by zero f g b c p q h e = absurd (omega arith)
+sumTo-gain-by (suc k) f g b c p q h e =
+    elim (ℕ-discrete b (suc k)) [
+      | yes z ↦
+          let r = sumTo-mono k f g (λ i p q. h i p (omega arith)) in
+          let w : f (suc k) + c ≤ g (suc k) = rw z at e in
+          omega arith
+      | no ne ↦
+          let r = sumTo-gain-by k f g b c p (omega arith) (λ i p q. h i p (omega arith)) e in
+          omega (arith, h (suc k) (omega arith) (le-refl (suc k)))
+    ]

@@ -1,3 +1,5 @@
+-- What one job put elsewhere does to the loads.
+-- Assumes nothing.
 use Prim.Native.Nat.{ℕ, zero, suc, _+_, _-_, _*_, _≤_, _<_, zero-le, suc-le-suc}
 use mathlib.Core.Path.{_≡_, refl, sym, ap, ap₂, _∙_}
 use mathlib.Core.Bool.{Bool, true, false}
@@ -10,15 +12,15 @@ use Rattle.rules.specs.Instance.{Instance, Assignment, n, minutesOf}
 use Rattle.rules.specs.Load.{load}
 use Rattle.theory.proofs.Fold.{at-put-same, at-put-other, sumTo-one}
 
--- batch b's part in the load of i
-abbrev pub part : Instance → List ℕ → ℕ → ℕ → ℕ
-part I ps i b = pick (eqb (at ps b) i) (minutesOf I b) 0
+-- job b's part in the load of machine i
+abbrev pub part : Instance → Assignment → ℕ → ℕ → ℕ
+part I x i b = pick (eqb (at x b) i) (minutesOf I b) 0
 
--- one batch placed anew: the load where it was loses its minutes, and the load where it goes gains them
-pub load-put : (I : Instance) (ps : List ℕ) (b v i : ℕ) → length ps ≡ n I → 0 < b → b ≤ n I
-    → load I (put ps b v) i + part I ps i b ≡ load I ps i + pick (eqb v i) (minutesOf I b) 0
+-- one job put anew: the load where it was loses its minutes, and the load where it goes gains them
+pub load-put : (I : Instance) (x : Assignment) (b v i : ℕ) → length x ≡ n I → 0 < b → b ≤ n I
+    → load I (put x b v) i + part I x i b ≡ load I x i + pick (eqb v i) (minutesOf I b) 0
 unfolding load
-load-put I ps b v i hl p q =
-    let e : at (put ps b v) b ≡ v = at-put-same ps b v p (omega arith) in
-    sumTo-one (n I) (part I (put ps b v) i) (part I ps i) b p q (λ j ne. rw (at-put-other ps b j v))
-    ∙ ap (λ (x : ℕ). load I ps i + pick (eqb x i) (minutesOf I b) 0) e
+load-put I x b v i hl p q =
+    let e : at (put x b v) b ≡ v = at-put-same x b v p (omega arith) in
+    sumTo-one (n I) (part I (put x b v) i) (part I x i) b p q (λ j ne. rw (at-put-other x b j v))
+    ∙ ap (λ (y : ℕ). load I x i + pick (eqb y i) (minutesOf I b) 0) e

@@ -1,4 +1,4 @@
--- What the searches overloaded 1 to k find, as data to match on.
+-- What the searches over 1 to k find, as data to match on.
 -- Assumes nothing.
 use Prim.Native.Nat.{ℕ, zero, suc, _+_, _≤_, _<_}
 use mathlib.Core.Path.{_≡_, refl, sym, ap, ap₂, _∙_}
@@ -38,7 +38,7 @@ unfolding firstTo
 first zero p = nowhere (λ i l u. absurd (omega arith))
 first (suc k) p = first-suc (first k p)
 
--- r is, of those of 1 to k that pass, the one of least f
+-- r is, of those of 1 to k that pass, one of least f
 pub data Least (k : ℕ) (p : ℕ → Bool) (f : ℕ → ℕ) : ℕ → Type 0 where
   nowhere : None k p → Least k p f 0
   found : (j : ℕ) → j < k → p (suc j) ≡ true
@@ -97,11 +97,11 @@ any-none k p e i l u = byTest (p i) (λ t. conflict (any-at k p i l u t) e) (λ 
 
 -- ---- the greatest
 
-most-left : (a b : ℕ) → a ≤ most a b
+pub most-left : (a b : ℕ) → a ≤ most a b
 unfolding most
 most-left a b = byTest (ltb a b) (λ t. rw t (omega (arith, ltb-true))) (λ t. rw t (le-refl a))
 
-most-right : (a b : ℕ) → b ≤ most a b
+pub most-right : (a b : ℕ) → b ≤ most a b
 unfolding most
 most-right a b = byTest (ltb a b) (λ t. rw t (le-refl b)) (λ t. rw t (ltb-false _ _ t))
 
@@ -172,7 +172,7 @@ all-mk (suc k) p h =
 
 -- ---- the greatest number that passes, by f
 
--- r is, of those of 1 to k that pass, the lowest of greatest f
+-- r is, of those of 1 to k that pass, one of greatest f
 pub data Greatest (k : ℕ) (p : ℕ → Bool) (f : ℕ → ℕ) : ℕ → Type 0 where
   nowhere : None k p → Greatest k p f 0
   found : (j : ℕ) → j < k → p (suc j) ≡ true

@@ -69,7 +69,9 @@ pub fn draft(rng: &mut Rng, shape: Shape) -> Draft {
         let length = match lengths {
             0 => usual,
             1 if rng.once_in(2) => longest,
-            2 if !rng.once_in(4) => rng.within(shortest, shortest.midpoint(longest).min(shortest + 3)),
+            2 if !rng.once_in(4) => {
+                rng.within(shortest, shortest.midpoint(longest).min(shortest + 3))
+            }
             _ => rng.within(shortest, longest),
         };
         let place = match places {
@@ -78,7 +80,11 @@ pub fn draft(rng: &mut Rng, shape: Shape) -> Draft {
             2 if rng.once_in(3) => 0,
             _ => *rng.pick(&list),
         };
-        Line { length, place, list }
+        Line {
+            length,
+            place,
+            list,
+        }
     });
     Draft {
         instruments: m,
@@ -231,26 +237,39 @@ pub fn calls(rng: &mut Rng, m: u32, n: u32, longest: u32, count: usize) -> Vec<C
 ///
 /// The last instrument is empty and nothing can go there, so a trial never
 /// runs out of underloaded instruments. Each of the others has a long batch
-/// that cannot leave it. One or two more long batches are free and fit
-/// nowhere, and to reach them an instrument must first push off all of the
-/// minute-long batches, which have lower numbers.
+/// that cannot leave it. A few more long batches are free and fit nowhere, and
+/// to reach them an instrument must first push off all of the minute-long
+/// batches, which have lower numbers.
 pub fn hard(seed: u64) -> Sheet {
     let mut rng = Rng::new(seed);
     let m = Sheet::INSTRUMENTS as u32;
     let open: Vec<u32> = (1..m).collect();
     let long = rng.within(Sheet::LENGTH - 40, Sheet::LENGTH);
-    let free = rng.within(1, 3);
-    let fixed = m - 1;
-    let short = Sheet::BATCHES as u32 - fixed - free;
-    let line = |length, place, list: &[u32]| Line {
-        length,
-        place,
-        list: list.to_vec(),
-    };
+    let free = rng.within(2, 3);
+    let short = Sheet::BATCHES as u32 - open.len() as u32 - free;
     let mut lines = Vec::with_capacity(Sheet::BATCHES);
-    lines.extend(open.iter().map(|&j| line(long, j, &[j])));
-    lines.extend((0..short).map(|_| line(1, 1, &open)));
-    lines.extend((0..free).map(|_| line(long, 1, &open)));
+    let mut put = |length, place, list: &[u32]| {
+        lines.push(Line {
+            length,
+            place,
+            list: list.to_vec(),
+        });
+    };
+    for &j in &open {
+        // Some a little shorter, so that sheets differ in more than scale.
+        let less = if rng.once_in(4) {
+            rng.within(0, long / 4)
+        } else {
+            0
+        };
+        put(long - less, j, &[j]);
+    }
+    for _ in 0..short {
+        put(1, 1, &open);
+    }
+    for _ in 0..free {
+        put(long, 1, &open);
+    }
     Draft {
         instruments: m,
         lines,

@@ -6,7 +6,7 @@
 //! that the fast code here has something to be held against.
 
 pub mod draft;
-pub mod r#gen;
+pub mod gen;
 pub mod listing;
 pub mod literal;
 pub mod plan;
@@ -19,11 +19,11 @@ pub mod sheet;
 pub mod trial;
 
 pub use draft::{Draft, Line};
-pub use listing::{HostAnswer, host, program};
-pub use plan::{Balance, Plan, balance, plan};
-pub use read::{Fault, read};
-pub use review::{Review, review};
-pub use run::{Answer, Call, apply, run};
+pub use listing::{host, program, HostAnswer};
+pub use plan::{balance, plan, Balance, Plan};
+pub use read::{read, Fault};
+pub use review::{review, Review};
+pub use run::{apply, run, Answer, Call};
 pub use settle::settle;
 pub use sheet::{Batch, Group, Refusal, Sheet};
-pub use trial::{Trial, Verdict, trial};
+pub use trial::{trial, Trial, Verdict};

@@ -1,6 +1,6 @@
 //! Listings in bytes, the call that a C host makes, and the program's text.
 
-use crate::plan::{Plan, plan};
+use crate::plan::{plan, Plan};
 use crate::read::read;
 use crate::sheet::{Group, Refusal, Sheet};
 

@@ -149,9 +149,7 @@ impl Book {
     pub fn review(&self) -> Review {
         let places = self.places();
         Review {
-            loads: (1..=self.m)
-                .map(|j| self.load(&places, j) as u32)
-                .collect(),
+            loads: (1..=self.m).map(|j| self.load(&places, j) as u32).collect(),
             makespan: self.makespan(&places) as u32,
             improves: (0..self.entries.len())
                 .find(|&i| self.improves(&places, i))

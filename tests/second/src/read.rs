@@ -28,11 +28,12 @@ fn number(word: u64) -> Option<u32> {
     let digits = word | ((EACH * 0x10) & ((1 << blank_bits) - 1));
     let high = EACH * 0xf0;
     let tag = EACH * 0x30;
-    if digits & high != tag || (digits + EACH * 6) & high != tag {
-        return None;
-    }
-    let first = (word >> blank_bits) as u8;
-    if first == b'0' && blank_bits != 8 * (WIDTH as u32 - 1) {
+    let strange = (digits & high ^ tag) | ((digits + EACH * 6) & high ^ tag);
+    // A zero in the first column used must also be in the last one. Put as a
+    // number, since how many digits there are is hard to foretell.
+    let first = word >> blank_bits & 0xff;
+    let spare_zero = (first == b'0' as u64) & (blank_bits != 8 * (WIDTH as u32 - 1));
+    if strange | spare_zero as u64 != 0 {
         return None;
     }
     let ones = digits - tag;
@@ -43,14 +44,48 @@ fn number(word: u64) -> Option<u32> {
     Some((high * 10_000 + middle * 100 + low) as u32)
 }
 
+/// No digit, and in the tens column no blank either.
+const BAD: u8 = 0x80;
+
+const fn column(tens: bool) -> [u8; 256] {
+    let mut value = [BAD; 256];
+    let mut digit = tens as u8;
+    while digit <= 9 {
+        value[(b'0' + digit) as usize] = if tens { 10 * digit } else { digit };
+        digit += 1;
+    }
+    if tens {
+        value[b' ' as usize] = 0;
+    }
+    value
+}
+
+static TENS: [u8; 256] = column(true);
+static ONES: [u8; 256] = column(false);
+
+/// The same number again, quicker where it is below 100.
+#[inline]
+fn small_number(word: u64) -> Option<u32> {
+    if word as u32 != 0x2020_2020 {
+        return number(word);
+    }
+    let tens = TENS[(word >> 32 & 0xff) as usize];
+    let ones = ONES[(word >> 40 & 0xff) as usize];
+    if (tens | ones) & BAD != 0 {
+        return None;
+    }
+    Some((tens + ones) as u32)
+}
+
 /// What is left to read.
 struct Cursor<'a> {
     rest: &'a [u8],
 }
 
 impl Cursor<'_> {
+    /// The next field, taken apart by `number`.
     #[inline]
-    fn field(&mut self) -> Result<u32, Refusal> {
+    fn field(&mut self, number: impl Fn(u64) -> Option<u32>) -> Result<u32, Refusal> {
         // One load where eight bytes are left, which is nearly everywhere.
         let word = match self.rest.first_chunk() {
             Some(eight) => u64::from_le_bytes(*eight) & (EACH * 0xff),
@@ -74,11 +109,11 @@ impl Cursor<'_> {
     }
 
     fn head(&mut self) -> Result<(usize, usize), Refusal> {
-        let m = self.field()? as usize;
+        let m = self.field(small_number)? as usize;
         if m == 0 || m > Sheet::INSTRUMENTS {
             return Err(Refusal::Size);
         }
-        let n = self.field()? as usize;
+        let n = self.field(number)? as usize;
         if n > Sheet::BATCHES {
             return Err(Refusal::Size);
         }
@@ -88,22 +123,30 @@ impl Cursor<'_> {
 
     #[inline]
     fn batch(&mut self, m: usize) -> Result<Batch, Refusal> {
-        let length = self.field()?;
+        let length = self.field(number)?;
         if length == 0 || length > Sheet::LENGTH {
             return Err(Refusal::Length);
         }
-        let place = self.field()?;
-        let count = self.field()? as usize;
+        let place = self.field(small_number)?;
+        let count = self.field(small_number)? as usize;
         if count == 0 || count > m {
             return Err(Refusal::List);
         }
-        let mut eligible = Eligible::NONE;
-        for _ in 0..count {
-            let instrument = self.field()?;
-            if !eligible.push(instrument as u64, m) {
+        let mut mask = 0u32;
+        let mut order = [0; Sheet::INSTRUMENTS];
+        for next in order.get_mut(..count).ok_or(Refusal::List)? {
+            let instrument = self.field(small_number)?;
+            if instrument == 0 || instrument > m as u32 || mask >> (instrument - 1) & 1 == 1 {
                 return Err(Refusal::List);
             }
+            mask |= 1 << (instrument - 1);
+            *next = instrument as u8;
         }
+        let eligible = Eligible {
+            mask,
+            count: count as u8,
+            order,
+        };
         self.line_end()?;
         let place = match place {
             0 => eligible.first(),
@@ -146,11 +189,14 @@ mod tests {
     use super::Cursor;
 
     fn number(field: &[u8; 6]) -> Option<u32> {
-        let short = Cursor { rest: field }.field().ok();
         let mut longer = [b'7'; 8];
         longer[..6].copy_from_slice(field);
-        assert_eq!(Cursor { rest: &longer }.field().ok(), short);
-        short
+        let value = Cursor { rest: field }.field(super::number).ok();
+        for rest in [field.as_slice(), &longer] {
+            assert_eq!(Cursor { rest }.field(super::number).ok(), value);
+            assert_eq!(Cursor { rest }.field(super::small_number).ok(), value);
+        }
+        value
     }
 
     #[test]

@@ -1,6 +1,6 @@
 //! Loads, makespan and whether any batch would rather be elsewhere.
 
-use crate::sheet::{Sheet, bits};
+use crate::sheet::{bits, Sheet};
 
 #[derive(Clone, Debug, PartialEq, Eq)]
 pub struct Review {

@@ -19,7 +19,7 @@ impl Rng {
 
     /// A number from 0 up to but not including `end`, which must not be 0.
     pub fn below(&mut self, end: u64) -> u64 {
-        (self.next_u64() as u128 * end as u128 >> 64) as u64
+        ((self.next_u64() as u128 * end as u128) >> 64) as u64
     }
 
     /// A number from `low` to `high`, both included.

@@ -1,9 +1,9 @@
 //! Calls in any order on one sheet, and what each answers.
 
-use crate::plan::{Plan, plan};
-use crate::review::{Review, review};
+use crate::plan::{plan, Plan};
+use crate::review::{review, Review};
 use crate::sheet::{Refusal, Sheet};
-use crate::trial::{Trial, trial};
+use crate::trial::{trial, Trial};
 
 #[derive(Clone, Debug, PartialEq, Eq)]
 pub enum Call {

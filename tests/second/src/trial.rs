@@ -15,7 +15,7 @@
 //! * An instrument that pushes stays above the level, so no instrument ever
 //!   becomes underloaded and the end cannot come while a batch is unplaced.
 
-use crate::sheet::{Group, Refusal, Sheet, bits};
+use crate::sheet::{bits, Group, Refusal, Sheet};
 
 #[derive(Clone, Debug, PartialEq, Eq)]
 pub struct Trial {

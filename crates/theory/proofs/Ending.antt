@@ -1,0 +1,56 @@
+-- A trial ends because nothing acts any more, never because its steps were counted out, and its counts keep their bounds.
+-- Assumes nothing.
+use Prim.Native.Nat.{ℕ, _+_, _*_, _≤_}
+use mathlib.Core.Path.{_≡_, refl}
+use native.Mathlib.Omega.{arith}
+use lib.ListN.{length}
+use Rattle.rules.specs.Fold.{sumTo}
+use Rattle.rules.specs.Instance.{Instance, Assignment, n, listOf}
+use Rattle.rules.specs.Trial.{State, rest, act, after, start, ended, liftBound, pushBound}
+use Rattle.theory.proofs.Valid.{Valid, Permitted}
+use Rattle.theory.proofs.Heights.{Shape, shape-step, shape-start}
+use Rattle.theory.proofs.Caps.{Caps, caps-step, caps-start}
+use Rattle.theory.proofs.Lifts.{climbed, lifts-step, lifts-bound}
+use Rattle.theory.proofs.Pushes.{turned, pushes-step, pushes-bound, pushes-tight}
+use Rattle.theory.proofs.Steps.{made, run-keeps, run-rests}
+
+pub record Counted (I : Instance) (s : State) : Type 0 where
+  pub shape : Shape I s
+  pub caps : Caps I s
+  pub lifts : s .lifts ≤ climbed I s
+  pub pushes : s .pushes ≤ turned I (s .assignment) (s .machineHeights) (s .jobHeights)
+
+pub counted-step : (I : Instance) (a : ℕ) (s : State) → Counted I s → Counted I (after s (act I a s))
+counted-step I a s v = record {
+  shape = shape-step I a s (v .shape);
+  caps = caps-step I a s (v .shape) (v .caps);
+  lifts = lifts-step I a s (v .shape) (v .caps) (v .lifts);
+  pushes = pushes-step I a s (v .shape) (v .pushes);
+}
+
+pub made-bound : (I : Instance) (s : State) → Counted I s → made s ≤ liftBound I + pushBound I
+made-bound I s v = omega (arith, lifts-bound I s (v .lifts), pushes-bound I s (v .caps) (v .pushes))
+
+module _ (I : Instance) (x : Assignment) (v : Valid I) (w : Permitted I x) (a : ℕ) where
+  pub counted-start : Counted I (start I x)
+  counted-start = record { shape = shape-start I x w; caps = caps-start I x v w; lifts = omega arith; pushes = omega arith }
+
+  pub counted-end : Counted I (ended I x a)
+  unfolding ended
+  counted-end = run-keeps I a (Counted I) (counted-step I a) (liftBound I + pushBound I) (start I x) counted-start
+
+  -- nothing acts at the end
+  pub trial-rests : act I a (ended I x a) ≡ rest
+  unfolding ended
+  trial-rests =
+      run-rests I a (Counted I) (counted-step I a) (liftBound I + pushBound I) (made-bound I) (start I x) counted-start refl
+
+  -- the bounds of document 01, and a tighter one for the pushes
+  pub trial-lifts : ended I x a .lifts ≤ liftBound I
+  trial-lifts = lifts-bound I (ended I x a) (counted-end .lifts)
+
+  pub trial-pushes : ended I x a .pushes ≤ pushBound I
+  trial-pushes = pushes-bound I (ended I x a) (counted-end .caps) (counted-end .pushes)
+
+  pub trial-pushes-tight : ended I x a .pushes ≤ (2 * I .m + 3) * sumTo (n I) (λ b. length (listOf I b))
+  trial-pushes-tight = pushes-tight I (ended I x a) (counted-end .caps) (counted-end .pushes)

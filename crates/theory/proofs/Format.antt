@@ -1,0 +1,174 @@
+-- Writing, then reading: the file of a description within the limits is read as the description's book.
+-- Assumes nothing.
+use Prim.Native.Nat.{ℕ, suc, _^_, _≤_, _<_}
+use mathlib.Core.Path.{_≡_, refl, sym, ap, _∙_}
+use mathlib.Core.Bool.{true, false, not}
+use mathlib.Core.List.{List, [], _∷_, _++_, map, append-nil, append-assoc}
+use native.Mathlib.Omega.{arith}
+use lib.ListN.{length, drop}
+use lib.Seq.{drop-at}
+use lib.Dec.{leb, eqb}
+use borrow.Author.Tests.{leb-true, eqb-true, eqb-false, ne-eqb, not-true}
+use Rattle.rules.specs.Fold.{_and_, _or_, mem, every}
+use Rattle.rules.specs.Sheet.{Book, Batch, size, maxBatches, goodInstruments, goodMinutes, isInstrument, distinct, goodList}
+use Rattle.rules.specs.Field.{Field, field}
+use Rattle.rules.specs.Read.{gives, fieldPart, numberAt, endOfLine, headLine, instrumentsAt, batchLine, accepted, batchLines, read}
+use Rattle.rules.specs.Render.{columns, fields, line, renderBatch, renderBatches, render, fitsBatch, fits, placed, bookOf}
+use Rattle.theory.proofs.Logic.{and-left, and-right, and-mk, not-mk, or-cases, or-none}
+use Rattle.theory.proofs.Member.{mem-append, every-mem}
+use Rattle.theory.proofs.Field.{columns-length, field-columns}
+
+-- ---- fields
+
+-- a number before further fields
+pub number-read : (x : ℕ) (xs r : List ℕ) → x < 10 ^ 6 → numberAt (fields (x ∷ xs) ++ r) ≡ gives x (fields xs ++ r)
+unfolding numberAt fields
+number-read x xs r h =
+    let s : List ℕ = fields xs ++ r in
+    ap (λ (u : List ℕ). fieldPart (field u) (drop 6 u)) (append-assoc (columns 6 x) (fields xs) r)
+    ∙ ap (λ (f : Field). fieldPart f (drop 6 (columns 6 x ++ s))) (field-columns x s h)
+    ∙ ap (λ (u : List ℕ). gives x u) (drop-at (columns 6 x) s 6 (columns-length 6 x))
+
+-- ---- a list of instruments
+
+-- what stands between two parts of a list without repeats is not in the part before
+distinct-mid : (l : List ℕ) (x : ℕ) (r : List ℕ) → distinct (l ++ (x ∷ r)) ≡ true → mem x l ≡ false
+unfolding distinct mem _or_
+distinct-mid [] x r e = refl
+distinct-mid (y ∷ l) x r e =
+    let a : mem y (l ++ (x ∷ r)) ≡ false = not-true _ (and-left _ _ e) in
+    let b = or-none (mem y l) (mem y (x ∷ r)) (sym (mem-append l (x ∷ r) y) ∙ a) in
+    let c = or-none (eqb x y) (mem y r) (b .1) in
+    rw (ne-eqb y x (λ q. eqb-false x y (c .0) (sym q))) (distinct-mid l x r (and-right (not (mem y (l ++ (x ∷ r)))) _ e))
+
+-- the limits keep every number within its field
+instrument-small : (m i : ℕ) → m ≤ 24 → isInstrument m i ≡ true → i < 10 ^ 6
+unfolding isInstrument
+instrument-small m i h e = let u : i ≤ m = leb-true i m (and-right (leb 1 i) _ e) in omega arith
+
+pub instruments-read : (m : ℕ) (xs l r : List ℕ) → m ≤ 24 → every (isInstrument m) xs ≡ true → distinct (l ++ xs) ≡ true
+    → instrumentsAt m (length xs) l (fields xs ++ r) ≡ gives (l ++ xs) r
+unfolding instrumentsAt every fields
+instruments-read m [] l r h e d = ap (λ (u : List ℕ). gives u r) (sym (append-nil l))
+instruments-read m (x ∷ xs) l r h e d =
+    let a : isInstrument m x ≡ true = and-left _ _ e in
+    let t : isInstrument m x and not (mem x l) ≡ true = and-mk _ _ a (not-mk (distinct-mid l x xs d)) in
+    let q : (l ++ (x ∷ [])) ++ xs ≡ l ++ (x ∷ xs) = append-assoc l (x ∷ []) xs in
+    rw (number-read x xs r (instrument-small m x h a), t)
+    (instruments-read m xs (l ++ (x ∷ [])) r h (and-right (isInstrument m x) _ e) (rw (← q) at d)
+    ∙ ap (λ (u : List ℕ). gives u r) q)
+
+-- ---- a batch line
+
+-- a line before the rest of the file
+pub line-rest : (xs r : List ℕ) → line xs ++ r ≡ fields xs ++ (10 ∷ r)
+line-rest xs r = append-assoc (fields xs) (10 ∷ []) r
+
+-- the parts of a batch within the limits
+pub record FitsBatch (m : ℕ) (b : Batch) : Type 0 where
+  pub minutes : goodMinutes (b .minutes) ≡ true
+  pub list : goodList m (b .list) ≡ true
+  pub place : eqb (b .place) 0 or mem (b .place) (b .list) ≡ true
+
+pub fits-batch-is : (m : ℕ) (b : Batch) → fitsBatch m b ≡ true → FitsBatch m b
+unfolding fitsBatch
+fits-batch-is m b e =
+    let r = and-right (goodMinutes (b .minutes)) _ e in
+    record { minutes = and-left _ _ e; list = and-left _ _ r; place = and-right (goodList m (b .list)) _ r }
+
+-- the parts of a list of qualified instruments
+pub record GoodList (m : ℕ) (l : List ℕ) : Type 0 where
+  pub count : leb 1 (length l) and leb (length l) m ≡ true
+  pub ranged : every (isInstrument m) l ≡ true
+  pub apart : distinct l ≡ true
+
+pub good-list-is : (m : ℕ) (l : List ℕ) → goodList m l ≡ true → GoodList m l
+unfolding goodList
+good-list-is m l e =
+    let r = and-right (leb 1 (length l)) _ e in
+    let s = and-right (leb (length l) m) _ r in
+    record {
+      count = and-mk _ _ (and-left _ _ e) (and-left _ _ r);
+      ranged = and-left _ _ s;
+      apart = and-right (every (isInstrument m) l) _ s;
+    }
+
+minutes-small : (t : ℕ) → goodMinutes t ≡ true → t < 10 ^ 6
+unfolding goodMinutes
+minutes-small t e = let u : t ≤ 1440 = leb-true t 1440 (and-right (leb 1 t) _ e) in omega arith
+
+place-small : (m p : ℕ) (l : List ℕ) → m ≤ 24 → every (isInstrument m) l ≡ true → eqb p 0 or mem p l ≡ true → p < 10 ^ 6
+place-small m p l h g e =
+    or-cases (eqb p 0) (mem p l) e
+    (λ t. omega (arith, eqb-true p 0 t))
+    (λ t. instrument-small m p h (every-mem (isInstrument m) l p g t))
+
+count-small : (m c : ℕ) → m ≤ 24 → leb 1 c and leb c m ≡ true → c < 10 ^ 6
+count-small m c h e = let u : c ≤ m = leb-true c m (and-right (leb 1 c) _ e) in omega arith
+
+pub batch-read : (m : ℕ) (b : Batch) (r : List ℕ) → m ≤ 24 → fitsBatch m b ≡ true
+    → batchLine m (renderBatch b ++ r) ≡ gives (placed b) r
+unfolding batchLine endOfLine
+batch-read m b r h e =
+    let f = fits-batch-is m b e in
+    let g = good-list-is m (b .list) (f .list) in
+    rw (
+      line-rest (b .minutes ∷ b .place ∷ length (b .list) ∷ b .list) r,
+      number-read (b .minutes) (b .place ∷ length (b .list) ∷ b .list) (10 ∷ r) (minutes-small _ (f .minutes)),
+      f .minutes,
+      number-read (b .place) (length (b .list) ∷ b .list) (10 ∷ r) (place-small m _ (b .list) h (g .ranged) (f .place)),
+      number-read (length (b .list)) (b .list) (10 ∷ r) (count-small m _ h (g .count)),
+      g .count,
+      instruments-read m (b .list) [] (10 ∷ r) h (g .ranged) (g .apart),
+      f .place,
+    )
+
+-- ---- the batch lines
+
+pub batches-read : (m : ℕ) (ds bs : List Batch) (j : ℕ) → m ≤ 24 → every (fitsBatch m) ds ≡ true
+    → batchLines m (length ds) j bs (renderBatches ds) ≡ accepted (record { m = m; batches = bs ++ map placed ds })
+unfolding batchLines renderBatches every
+batches-read m [] bs j h e = ap (λ (u : List Batch). accepted (record { m = m; batches = u })) (sym (append-nil bs))
+batches-read m (d ∷ ds) bs j h e =
+    rw (batch-read m d (renderBatches ds) h (and-left _ _ e))
+    (batches-read m ds (bs ++ (placed d ∷ [])) (suc j) h (and-right (fitsBatch m d) _ e)
+    ∙ ap (λ (u : List Batch). accepted (record { m = m; batches = u })) (append-assoc bs (placed d ∷ []) (map placed ds)))
+
+-- ---- the file
+
+-- the parts of a description within the limits
+pub record Fits (d : Book) : Type 0 where
+  pub instruments : goodInstruments (d .m) ≡ true
+  pub room : leb (size d) maxBatches ≡ true
+  pub batches : every (fitsBatch (d .m)) (d .batches) ≡ true
+
+pub fits-is : (d : Book) → fits d ≡ true → Fits d
+unfolding fits
+fits-is d e =
+    let r = and-right (goodInstruments (d .m)) _ e in
+    record { instruments = and-left _ _ e; room = and-left _ _ r; batches = and-right (leb (size d) maxBatches) _ r }
+
+few : (m : ℕ) → goodInstruments m ≡ true → m ≤ 24
+unfolding goodInstruments
+few m e = leb-true m 24 (and-right (leb 1 m) _ e)
+
+head-read : (m n : ℕ) (r : List ℕ) → goodInstruments m ≡ true → leb n maxBatches ≡ true
+    → headLine (line (m ∷ n ∷ []) ++ r) ≡ gives (record { m = m; n = n }) r
+unfolding headLine endOfLine fields
+head-read m n r e f =
+    let l = few m e in
+    let k : n ≤ 200 = leb-true n 200 f in
+    rw (
+      line-rest (m ∷ n ∷ []) r,
+      number-read m (n ∷ []) (10 ∷ r) (omega arith),
+      e,
+      number-read n [] (10 ∷ r) (omega arith),
+      f,
+    )
+
+pub read-render : (d : Book) → fits d ≡ true → read (render d) ≡ accepted (bookOf d)
+unfolding read render
+read-render d e =
+    let f = fits-is d e in
+    rw (head-read (d .m) (size d) (renderBatches (d .batches)) (f .instruments) (f .room))
+    (batches-read (d .m) (d .batches) [] 2 (few (d .m) (f .instruments)) (f .batches))

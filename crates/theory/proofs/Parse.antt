@@ -1,0 +1,243 @@
+-- Reading, then writing: what is read without refusal is the file of a description within the limits.
+-- Assumes nothing.
+use Prim.Native.Nat.{ℕ, zero, suc}
+use mathlib.Core.Path.{_≡_, refl, sym, ap, ap₂, _∙_, subst}
+use mathlib.Core.Bool.{Bool, true, false, not}
+use mathlib.Core.List.{List, [], _∷_, _++_, map, append-nil, append-assoc}
+use native.Mathlib.Omega.{arith}
+use lib.ListN.{length, drop}
+use lib.Dec.{leb, eqb}
+use borrow.Author.Tests.{eqb-true, eqb-false, ne-eqb, not-true}
+use Rattle.rules.specs.Fold.{_and_, _or_, mem, every}
+use Rattle.rules.specs.Refusal.{Refusal}
+use Rattle.rules.specs.Sheet.{Book, Batch, maxBatches, goodInstruments, goodMinutes, isInstrument, distinct, goodList}
+use Rattle.rules.specs.Field.{Field, value, fault, field}
+use Rattle.rules.specs.Read.{Part, gives, refuses, andThen, orRefuse, fieldPart, numberAt, endOfLine, Head, headLine, instrumentsAt, batchLine, Reading, accepted, refusedAt, onLine, batchLines, read}
+use Rattle.rules.specs.Render.{columns, fields, line, renderBatch, renderBatches, render, fitsBatch, fits, placed, bookOf}
+use Rattle.theory.proofs.Logic.{and-left, and-right, and-mk, not-mk, or-none, or-skip}
+use Rattle.theory.proofs.Member.{mem-append}
+use Rattle.theory.proofs.Field.{field-value}
+use Rattle.theory.proofs.Format.{line-rest}
+
+-- ---- a part that gives, and what the rest of a proof is told of it
+
+no-part {ℓ} : {X : Type 0} {Y : Type ℓ} {e : Refusal} {x : X} {r : List ℕ} → refuses e ≡ gives x r → Y
+no-part e = absurd (let z : _≡_ {A = ℕ} 0 1 = cc in omega arith)
+
+no-reading {ℓ} : {Y : Type ℓ} {e : Refusal} {j : ℕ} {k : Book} → refusedAt e j ≡ accepted k → Y
+no-reading e = absurd (let z : _≡_ {A = ℕ} 0 1 = cc in omega arith)
+
+module _ {X C : Type 0} where
+  -- what was given
+  gave : {x y : X} {r s : List ℕ} → gives x r ≡ gives y s → (x ≡ y → r ≡ s → C) → C
+  gave {x} {y} {r} {s} e f = let p : x ≡ y = cc in let q : r ≡ s = cc in f p q
+
+  then-gives : {Y : Type 0} {y : Y} {s : List ℕ} (p : Part X) (next : X → List ℕ → Part Y) → andThen p next ≡ gives y s
+      → ((x : X) (r : List ℕ) → p ≡ gives x r → next x r ≡ gives y s → C) → C
+  then-gives (gives x r) next e f = f x r refl e
+  then-gives (refuses g) next e f = no-part e
+
+  or-gives : {x : X} {s : List ℕ} (t : Bool) (g : Refusal) (p : Part X) → orRefuse t g p ≡ gives x s
+      → (t ≡ true → p ≡ gives x s → C) → C
+  or-gives true g p e f = f refl e
+  or-gives false g p e f = no-part e
+
+  end-gives : {x : X} {s : List ℕ} (r : List ℕ) (next : List ℕ → Part X) → endOfLine r next ≡ gives x s
+      → ((u : List ℕ) → r ≡ 10 ∷ u → next u ≡ gives x s → C) → C
+  unfolding endOfLine
+  end-gives [] next e f = no-part e
+  end-gives (z ∷ u) next e f =
+      or-gives (eqb z 10) _ (next u) e (λ t h. f u (ap (λ (z : ℕ). z ∷ u) (eqb-true z 10 t)) h)
+
+  line-accepted : {k : Book} (j : ℕ) (p : Part X) (next : X → List ℕ → Reading) → onLine j p next ≡ accepted k
+      → ((x : X) (r : List ℕ) → p ≡ gives x r → next x r ≡ accepted k → C) → C
+  line-accepted j (gives x r) next e f = f x r refl e
+  line-accepted j (refuses g) next e f = no-reading e
+
+-- ---- fields
+
+number-gives : (r : List ℕ) (v : ℕ) (s : List ℕ) → numberAt r ≡ gives v s → r ≡ columns 6 v ++ s
+unfolding numberAt
+number-gives r v s e = from (field r) refl e
+  where
+    from : (f : Field) → field r ≡ f → fieldPart f (drop 6 r) ≡ gives v s → r ≡ columns 6 v ++ s
+    from (value w) q h =
+        let a : w ≡ v = cc in
+        let b : drop 6 r ≡ s = cc in
+        field-value r w q .1 ∙ ap₂ (λ (x : ℕ) (u : List ℕ). columns 6 x ++ u) a b
+    from fault q h = no-part h
+
+-- a number before further fields
+number-wrote : (r : List ℕ) (v : ℕ) (s xs u : List ℕ) → numberAt r ≡ gives v s → fields xs ++ u ≡ s
+    → fields (v ∷ xs) ++ u ≡ r
+unfolding fields
+number-wrote r v s xs u e h =
+    append-assoc (columns 6 v) (fields xs) u ∙ ap (λ (z : List ℕ). columns 6 v ++ z) h ∙ sym (number-gives r v s e)
+
+-- ---- a list of instruments
+
+distinct-snoc : (l : List ℕ) (x : ℕ) → distinct l ≡ true → mem x l ≡ false → distinct (l ++ (x ∷ [])) ≡ true
+unfolding distinct mem
+distinct-snoc [] x d e = and-mk _ _ refl refl
+distinct-snoc (y ∷ l) x d e =
+    let a : mem y l ≡ false = not-true _ (and-left _ _ d) in
+    let b = or-none (eqb y x) (mem x l) e in
+    let c : eqb x y ≡ false = ne-eqb x y (λ q. eqb-false y x (b .0) (sym q)) in
+    let f : mem y (l ++ (x ∷ [])) ≡ false = mem-append l (x ∷ []) y ∙ or-skip _ a ∙ or-skip _ c in
+    and-mk _ _ (not-mk f) (distinct-snoc l x (and-right (not (mem y l)) _ d) (b .1))
+
+-- the instruments read, after those of l
+record Listed (m c : ℕ) (l r k s : List ℕ) : Type 0 where
+  xs : List ℕ
+  count : length xs ≡ c
+  all : l ++ xs ≡ k
+  wrote : fields xs ++ s ≡ r
+  ranged : every (isInstrument m) xs ≡ true
+  apart : distinct k ≡ true
+
+instruments-wrote : (m c : ℕ) (l r k s : List ℕ) → distinct l ≡ true → instrumentsAt m c l r ≡ gives k s → Listed m c l r k s
+unfolding instrumentsAt fields every
+instruments-wrote m zero l r k s d e =
+    gave e (λ p q. record { xs = []; count = refl; all = append-nil l ∙ p; wrote = sym q; ranged = refl; apart = rw p at d })
+instruments-wrote m (suc c) l r k s d e =
+    then-gives (numberAt r) _ e (λ i r₁ e₁ h₁.
+    or-gives (isInstrument m i and not (mem i l)) _ _ h₁ (λ o h₂.
+    let z : mem i l ≡ false = not-true _ (and-right (isInstrument m i) _ o) in
+    let t = instruments-wrote m c (l ++ (i ∷ [])) r₁ k s (distinct-snoc l i d z) h₂ in
+    record {
+      xs = i ∷ t .xs;
+      count = ap suc (t .count);
+      all = sym (append-assoc l (i ∷ []) (t .xs)) ∙ t .all;
+      wrote = number-wrote r i r₁ (t .xs) s e₁ (t .wrote);
+      ranged = and-mk _ _ (and-left _ _ o) (t .ranged);
+      apart = t .apart;
+    }))
+
+-- ---- a batch line
+
+-- the description that a batch line is written from
+record Described (m : ℕ) (r : List ℕ) (b : Batch) (s : List ℕ) : Type 0 where
+  d : Batch
+  fit : fitsBatch m d ≡ true
+  same : placed d ≡ b
+  wrote : renderBatch d ++ s ≡ r
+
+good-list : (m : ℕ) (l : List ℕ) → leb 1 (length l) and leb (length l) m ≡ true → every (isInstrument m) l ≡ true
+    → distinct l ≡ true → goodList m l ≡ true
+unfolding goodList
+good-list m l c r d = and-mk _ _ (and-left _ _ c) (and-mk _ _ (and-right (leb 1 (length l)) _ c) (and-mk _ _ r d))
+
+-- the count and the instruments of a line
+counted : (m c : ℕ) (r r₁ l s : List ℕ) → numberAt r ≡ gives c r₁ → leb 1 c and leb c m ≡ true
+    → instrumentsAt m c [] r₁ ≡ gives l s → (goodList m l ≡ true) × (fields (length l ∷ l) ++ s ≡ r)
+unfolding distinct
+counted m c r r₁ l s e o h =
+    let x = instruments-wrote m c [] r₁ l s refl h in
+    let n : c ≡ length l = sym (x .count) ∙ ap length (x .all) in (
+      good-list m l (subst (λ (i : ℕ). leb 1 i and leb i m ≡ true) n o)
+          (subst (λ (k : List ℕ). every (isInstrument m) k ≡ true) (x .all) (x .ranged)) (x .apart),
+      number-wrote r (length l) r₁ l s (e ∙ ap (λ (i : ℕ). gives i r₁) n)
+          (ap (λ (k : List ℕ). fields k ++ s) (sym (x .all)) ∙ x .wrote),
+    )
+
+batch-wrote : (m : ℕ) (r : List ℕ) (b : Batch) (s : List ℕ) → batchLine m r ≡ gives b s → Described m r b s
+unfolding batchLine fitsBatch
+batch-wrote m r b s e =
+    then-gives (numberAt r) _ e (λ t r₁ e₁ h₁.
+    or-gives (goodMinutes t) _ _ h₁ (λ o₁ h₂.
+    then-gives (numberAt r₁) _ h₂ (λ p r₂ e₂ h₃.
+    then-gives (numberAt r₂) _ h₃ (λ c r₃ e₃ h₄.
+    or-gives (leb 1 c and leb c m) _ _ h₄ (λ o₂ h₅.
+    then-gives (instrumentsAt m c [] r₃) _ h₅ (λ l r₄ e₄ h₆.
+    end-gives r₄ _ h₆ (λ r₅ e₅ h₇.
+    or-gives (eqb p 0 or mem p l) _ _ h₇ (λ o₃ h₈.
+    gave h₈ (λ same z.
+    let g = counted m c r₂ r₃ l r₄ e₃ o₂ e₄ in
+    let w : 10 ∷ s ≡ r₄ = ap (λ (u : List ℕ). 10 ∷ u) (sym z) ∙ sym e₅ in
+    record {
+      d = record { minutes = t; list = l; place = p };
+      fit = and-mk _ _ o₁ (and-mk _ _ (g .0) o₃);
+      same = same;
+      wrote =
+          line-rest (t ∷ p ∷ length l ∷ l) s
+          ∙ number-wrote r t r₁ (p ∷ length l ∷ l) (10 ∷ s) e₁
+          (number-wrote r₁ p r₂ (length l ∷ l) (10 ∷ s) e₂
+          (ap (λ (u : List ℕ). fields (length l ∷ l) ++ u) w ∙ g .1));
+    })))))))))
+
+-- ---- the batch lines
+
+-- the descriptions that batch lines are written from, after the batches bs
+record Lines (m c : ℕ) (bs : List Batch) (r : List ℕ) (k : Book) : Type 0 where
+  ds : List Batch
+  count : length ds ≡ c
+  fit : every (fitsBatch m) ds ≡ true
+  same : record { m = m; batches = bs ++ map placed ds } ≡ k
+  wrote : renderBatches ds ≡ r
+
+batches-wrote : (m c j : ℕ) (bs : List Batch) (r : List ℕ) (k : Book) → batchLines m c j bs r ≡ accepted k → Lines m c bs r k
+unfolding batchLines renderBatches every
+batches-wrote m zero j bs [] k e =
+    let q : record { m = m; batches = bs } ≡ k = cc in
+    record {
+      ds = [];
+      count = refl;
+      fit = refl;
+      same = ap (λ (u : List Batch). record { m = m; batches = u }) (append-nil bs) ∙ q;
+      wrote = refl;
+    }
+batches-wrote m zero j bs (x ∷ r) k e = no-reading e
+batches-wrote m (suc c) j bs r k e =
+    line-accepted j (batchLine m r) _ e (λ b r₁ e₁ h₁.
+    let x = batch-wrote m r b r₁ e₁ in
+    let t = batches-wrote m c (suc j) (bs ++ (b ∷ [])) r₁ k h₁ in
+    record {
+      ds = x .d ∷ t .ds;
+      count = ap suc (t .count);
+      fit = and-mk _ _ (x .fit) (t .fit);
+      same =
+          ap (λ (u : List Batch). record { m = m; batches = u })
+          (ap (λ (h : Batch). bs ++ (h ∷ map placed (t .ds))) (x .same) ∙ sym (append-assoc bs (b ∷ []) (map placed (t .ds))))
+          ∙ t .same;
+      wrote = ap (λ (u : List ℕ). renderBatch (x .d) ++ u) (t .wrote) ∙ x .wrote;
+    })
+
+-- ---- the file
+
+-- line 1 is within the limits, and written from what it gives
+record Headed (r : List ℕ) (h : Head) (s : List ℕ) : Type 0 where
+  instruments : goodInstruments (h .m) ≡ true
+  room : leb (h .n) maxBatches ≡ true
+  wrote : line (h .m ∷ h .n ∷ []) ++ s ≡ r
+
+head-wrote : (r : List ℕ) (h : Head) (s : List ℕ) → headLine r ≡ gives h s → Headed r h s
+unfolding headLine fields
+head-wrote r h s e =
+    then-gives (numberAt r) _ e (λ m r₁ e₁ h₁.
+    or-gives (goodInstruments m) _ _ h₁ (λ o₁ h₂.
+    then-gives (numberAt r₁) _ h₂ (λ n r₂ e₂ h₃.
+    or-gives (leb n maxBatches) _ _ h₃ (λ o₂ h₄.
+    end-gives r₂ _ h₄ (λ r₃ e₃ h₅.
+    gave h₅ (λ q z.
+    subst (λ (i : Head). Headed r i s) q
+    (record {
+      instruments = o₁;
+      room = o₂;
+      wrote =
+          line-rest (m ∷ n ∷ []) s
+          ∙ number-wrote r m r₁ (n ∷ []) (10 ∷ s) e₁
+          (number-wrote r₁ n r₂ [] (10 ∷ s) e₂ (ap (λ (u : List ℕ). 10 ∷ u) (sym z) ∙ sym e₃));
+    })))))))
+
+pub read-is-render : (s : List ℕ) (k : Book) → read s ≡ accepted k
+    → (d : Book) × (fits d ≡ true) × (bookOf d ≡ k) × (render d ≡ s)
+unfolding read fits render
+read-is-render s k e =
+    line-accepted 1 (headLine s) _ e (λ h r e₁ h₁.
+    let g = head-wrote s h r e₁ in
+    let t = batches-wrote (h .m) (h .n) 2 [] r k h₁ in (
+      record { m = h .m; batches = t .ds },
+      and-mk _ _ (g .instruments) (and-mk _ _ (subst (λ (c : ℕ). leb c maxBatches ≡ true) (sym (t .count)) (g .room)) (t .fit)),
+      t .same,
+      ap₂ (λ (c : ℕ) (u : List ℕ). line (h .m ∷ c ∷ []) ++ u) (t .count) (t .wrote) ∙ g .wrote,
+    ))

@@ -1,0 +1,128 @@
+-- Lists of calls on the book (document 01, "Runs"): the book stays sound along every list, and each trial and each planning in it
+-- keeps what document 01 claims of it.
+-- Assumes nothing.
+use Prim.Native.Nat.{ℕ, _+_, _*_, _≤_, _<_}
+use mathlib.Core.Path.{_≡_, refl, sym, ap, _∙_}
+use mathlib.Core.Bool.{Bool, true, false}
+use mathlib.Core.List.{List, [], _∷_}
+use native.Mathlib.Omega.{arith}
+use lib.ListN.{length}
+use Rattle.rules.specs.Sheet.{Book, sound}
+use Rattle.rules.specs.Read.{read, accepted}
+use Rattle.rules.specs.Edit.{Edit, Edited, refused, edited, edit}
+use Rattle.rules.specs.Instance.{Instance, Assignment, instance, places, n}
+use Rattle.rules.specs.Load.{longest, makespan, equilibrium, review}
+use Rattle.rules.specs.Trial.{State, ended, liftBound, pushBound}
+use Rattle.rules.specs.Group.{trial}
+use Rattle.rules.specs.LowerBound.{witnessed}
+use Rattle.rules.specs.Run.{Call, editing, reviewing, trying, planning, next, bookAfter, editBook, planBook, withPlaces}
+use Rattle.theory.proofs.Valid.{Valid, Permitted}
+use Rattle.theory.proofs.Sound.{read-sound, edit-sound, sound-valid, sound-permitted, placed-sound}
+use Rattle.theory.proofs.Review.{Improves, review-settled, settled-review, settled-none, none-settled}
+use Rattle.theory.proofs.Ending.{trial-lifts, trial-pushes}
+use Rattle.theory.proofs.Trial.{Outcome, outcome, trial-permitted}
+use Rattle.theory.proofs.Planning.{plan-permitted, plan-settled, plan-makespan, plan-no-later, plan-close, plan-bound-below, plan-near-bound, plan-witness}
+
+-- ---- what is claimed on a book
+
+-- of every trial, whatever its level, whether planning makes it or the host asks for it
+pub record Trials (k : Book) : Type 0 where
+  pub lifts : (a : ℕ) → ended (instance k) (places k) a .lifts ≤ liftBound (instance k)
+  pub pushes : (a : ℕ) → ended (instance k) (places k) a .pushes ≤ pushBound (instance k)
+  pub valid : Valid (instance k)
+  pub permitted : Permitted (instance k) (places k)
+  pub outcomes : (a : ℕ) → Outcome (instance k) (places k) valid permitted a (trial (instance k) (places k) a)
+
+-- of planning, on any book
+pub record Plans (k : Book) : Type 0 where
+  pub noLater : planBook k .makespan ≤ makespan (instance k) (places k)
+  pub permitted : Permitted (instance k) (planBook k .assignment)
+  pub makespan : planBook k .makespan ≡ makespan (instance k) (planBook k .assignment)
+  pub settled : equilibrium (instance k) (planBook k .assignment) ≡ true
+
+-- of planning, on a book with a batch: at most longest − 1 above any permitted plan, and above the lower bound
+pub record Bounds (k : Book) : Type 0 where
+  pub close : (y : Assignment) → Permitted (instance k) y
+      → planBook k .makespan + 1 ≤ makespan (instance k) y + longest (instance k)
+  pub below : (y : Assignment) → Permitted (instance k) y → planBook k .lowerBound ≤ makespan (instance k) y
+  pub near : planBook k .makespan + 1 ≤ planBook k .lowerBound + longest (instance k)
+  pub witness : witnessed (instance k) (planBook k .group) (planBook k .lowerBound) ≡ true
+
+-- of review: settled is answered exactly when no batch improves
+pub record Reviews (k : Book) : Type 0 where
+  pub settled : review (instance k) (places k) .improving ≡ 0 → (b : ℕ) → 0 < b → b ≤ n (instance k) → Improves (instance k) (places k) b → ⊥
+  pub unsettled : ((b : ℕ) → 0 < b → b ≤ n (instance k) → Improves (instance k) (places k) b → ⊥)
+      → review (instance k) (places k) .improving ≡ 0
+
+pub record Claims (k : Book) : Type 0 where
+  pub sound : sound k ≡ true
+  pub reviews : Reviews k
+  pub trials : Trials k
+  pub plans : Plans k
+  pub bounds : 0 < n (instance k) → Bounds k
+
+pub sound-claims : (k : Book) → sound k ≡ true → Claims k
+sound-claims k e =
+    let I = instance k in
+    let x = places k in
+    let v = sound-valid k e in
+    let w = sound-permitted k e in
+    record {
+      sound = e;
+      reviews = record {
+        settled = λ z. settled-none I x (review-settled I x z);
+        unsettled = λ h. settled-review I x (none-settled I x h);
+      };
+      trials = record {
+        lifts = λ a. trial-lifts I x v w a;
+        pushes = λ a. trial-pushes I x v w a;
+        valid = v;
+        permitted = w;
+        outcomes = λ a. outcome I x v w a;
+      };
+      plans = record {
+        noLater = plan-no-later I x v w;
+        permitted = plan-permitted I x v w;
+        makespan = plan-makespan I x v w;
+        settled = plan-settled I x v w;
+      };
+      bounds = λ some. record {
+        close = plan-close I x v w some;
+        below = plan-bound-below I x v w some;
+        near = plan-near-bound I x v w some;
+        witness = plan-witness I x v w some;
+      };
+    }
+
+-- ---- along a list of calls
+
+edited-sound : (k : Book) (e : Edit) → sound k ≡ true → (o : Edited) → edit k e ≡ o → sound (editBook k o) ≡ true
+edited-sound k e h (refused r) q = h
+edited-sound k e h (edited j) q = edit-sound k e j h q
+
+-- every call, refused or not, leaves a sound book sound
+pub next-sound : (k : Book) (c : Call) → sound k ≡ true → sound (next k c) ≡ true
+unfolding next
+next-sound k (editing e) h = edited-sound k e h (edit k e) refl
+next-sound k reviewing h = h
+next-sound k (trying a) h = h
+next-sound k planning h =
+    placed-sound k (planBook k .assignment) h (plan-permitted (instance k) (places k) (sound-valid k h) (sound-permitted k h))
+
+-- the claims hold on the book before each call of a list, and on the book after it
+pub data Throughout : Book → List Call → Type 0 where
+  end : {k : Book} → Claims k → Throughout k []
+  call : {k : Book} {c : Call} {cs : List Call} → Claims k → Throughout (next k c) cs → Throughout k (c ∷ cs)
+
+pub throughout : (k : Book) (cs : List Call) → sound k ≡ true → Throughout k cs
+throughout k [] h = end (sound-claims k h)
+throughout k (c ∷ cs) h = call (sound-claims k h) (throughout (next k c) cs (next-sound k c h))
+
+-- from every file without a fault, and for every list of calls
+pub run-claims : (s : List ℕ) (k : Book) → read s ≡ accepted k → (cs : List Call) → Throughout k cs
+run-claims s k e cs = throughout k cs (read-sound s k e)
+
+pub run-sound : (k : Book) (cs : List Call) → sound k ≡ true → sound (bookAfter k cs) ≡ true
+unfolding bookAfter
+run-sound k [] h = h
+run-sound k (c ∷ cs) h = run-sound (next k c) cs (next-sound k c h)

@@ -1,0 +1,433 @@
+//! Every refusal, at many lines and columns, and which comes first.
+
+use second::rng::Rng;
+use second::*;
+
+/// Bytes for a field or for whatever stands in its stead.
+fn six(value: u32) -> String {
+    format!("{value:>6}")
+}
+
+fn text(lines: &[&[&str]]) -> Vec<u8> {
+    let mut out = Vec::new();
+    for line in lines {
+        for field in *line {
+            out.extend(field.bytes());
+        }
+        out.push(b'\n');
+    }
+    out
+}
+
+fn refused(bytes: &[u8]) -> (u32, u32) {
+    let fault = read(bytes).expect_err("a fault");
+    let found = (fault.refusal.number(), fault.line);
+    let mut buffer = [0xa5; 64];
+    let answer = host(bytes, &mut buffer);
+    assert_eq!(
+        (answer.refusal, answer.line, answer.length),
+        (found.0, found.1, 0)
+    );
+    assert_eq!(buffer, [0xa5; 64]);
+    assert_eq!(host(bytes, &mut []), answer);
+    let line = six(found.0) + &six(found.1) + "\n";
+    assert_eq!(program(bytes), line.as_bytes());
+    found
+}
+
+fn some_drafts() -> Vec<Draft> {
+    let mut rng = Rng::new(2001);
+    let mut drafts: Vec<Draft> = (0..12).map(|_| gen::draft(&mut rng, gen::SMALL)).collect();
+    drafts.extend((0..3).map(|_| gen::draft(&mut rng, gen::MEDIUM)));
+    drafts.push(Draft::new(1, &[]));
+    drafts.push(Draft::new(24, &[(1440, 24, &[24, 1, 2]), (1, 0, &[3])]));
+    drafts
+}
+
+/// Line (from 1) in which a byte stands.
+fn line_of(file: &[u8], at: usize) -> u32 {
+    1 + file[..at].iter().filter(|&&b| b == b'\n').count() as u32
+}
+
+#[test]
+fn every_cut() {
+    for draft in some_drafts() {
+        let file = draft.render();
+        for cut in 0..file.len() {
+            assert_eq!(refused(&file[..cut]), (1, line_of(&file, cut)));
+        }
+        assert!(read(&file).is_ok());
+    }
+}
+
+#[test]
+fn every_field_malformed() {
+    let bad = [
+        "    07",
+        "     a",
+        "      ",
+        "     \t",
+        "\t    1",
+        " 1   1",
+        "-    1",
+        "    -1",
+        "    +1",
+        "1     ",
+        "     \n",
+        "\n    1",
+        "     \r",
+        "000000",
+        "000001",
+        "    00",
+        "    1.",
+        "   1 0",
+        " 00001",
+        "     \0",
+        "     /",
+        "     :",
+        "\u{a0}   1",
+    ];
+    for draft in some_drafts() {
+        let file = draft.render();
+        for start in gen::fields(&file) {
+            for field in bad {
+                let mut spoilt = file.clone();
+                spoilt.splice(start..start + 6, field.bytes());
+                assert_eq!(refused(&spoilt), (1, line_of(&file, start)), "{field:?}");
+            }
+        }
+    }
+}
+
+#[test]
+fn every_line_end() {
+    for draft in some_drafts() {
+        let file = draft.render();
+        for at in (0..file.len()).filter(|&at| file[at] == b'\n') {
+            let line = line_of(&file, at);
+            for byte in [b' ', b'\r', b'1', 0, b'\t', 0x8a] {
+                let mut spoilt = file.clone();
+                spoilt[at] = byte;
+                assert_eq!(refused(&spoilt), (1, line));
+                let mut spoilt = file.clone();
+                spoilt.insert(at, byte);
+                assert_eq!(refused(&spoilt), (1, line));
+            }
+            let mut spoilt = file.clone();
+            spoilt.remove(at);
+            assert_eq!(refused(&spoilt), (1, line));
+        }
+    }
+}
+
+#[test]
+fn bytes_left_over() {
+    let ends: [&[u8]; 8] = [
+        b"\n",
+        b" ",
+        b"\0",
+        b"\n\n\n",
+        b"     1",
+        b"     1     0     1     1\n",
+        b"x\ny\nz\n",
+        b"\r\n",
+    ];
+    for draft in some_drafts() {
+        for end in ends {
+            let file = [&draft.render(), end].concat();
+            assert_eq!(refused(&file), (1, draft.lines.len() as u32 + 2));
+        }
+    }
+}
+
+#[test]
+fn size_out_of_range() {
+    for m in [0, 25, 26, 100, 1440, 999_999] {
+        // Nothing after m matters any more.
+        for rest in ["", "     1\n", "    01\n", "   201\n", "     0\n", "x"] {
+            assert_eq!(refused((six(m) + rest).as_bytes()), (2, 1));
+        }
+    }
+    for m in 1..=24 {
+        for n in [201, 202, 1000, 999_999] {
+            for rest in ["", "\n", "x", "\n     1"] {
+                let file = six(m) + &six(n) + rest;
+                assert_eq!(refused(file.as_bytes()), (2, 1));
+            }
+        }
+        for n in [1, 2, 199, 200] {
+            let file = six(m) + &six(n) + "\n";
+            assert_eq!(refused(file.as_bytes()), (1, 2));
+            let file = six(m) + &six(n);
+            assert_eq!(refused(file.as_bytes()), (1, 1));
+        }
+    }
+}
+
+/// A file with good lines before and after the one under test.
+fn around(m: u32, before: usize, line: &str, after: usize) -> Vec<u8> {
+    let n = (before + 1 + after) as u32;
+    let good = "     7     1     1     1\n";
+    let mut file = six(m) + &six(n) + "\n";
+    file += &good.repeat(before);
+    file += line;
+    file += &good.repeat(after);
+    file.into_bytes()
+}
+
+#[test]
+fn faults_inside_a_batch_line() {
+    // Lines for a sheet of three instruments, with the number each earns.
+    let lines = [
+        // Length, before anything that follows it.
+        ("     0     1     1     1\n", 3),
+        ("  1441     1     1     1\n", 3),
+        ("999999     1     1     1\n", 3),
+        ("     0", 3),
+        ("  1441    0x     0\n", 3),
+        ("     0     9     9     9\n", 3),
+        // A malformed place at its own field, a wrong one only after the LF.
+        ("     1    0x     0\n", 1),
+        ("     1    01     9     9\n", 1),
+        ("     1     9     0\n", 4),
+        ("     1     9     4     1     2     3     1\n", 4),
+        ("     1     9     1     4\n", 4),
+        ("     1     9     1     x\n", 1),
+        ("     1     9     1     1 \n", 1),
+        ("     1     9     1     1     2\n", 1),
+        ("     1     9     1     1\n", 5),
+        ("     1     2     1     1\n", 5),
+        ("     1     4     3     1     2     3\n", 5),
+        ("     1    24     1     1\n", 5),
+        ("     1    25     1     1\n", 5),
+        ("     1    33     1     1\n", 5),
+        ("     1   257     1     1\n", 5),
+        ("     1 65537     1     1\n", 5),
+        ("     1999999     1     1\n", 5),
+        // Count.
+        ("     1     1     0\n", 4),
+        ("     1     1     0     1\n", 4),
+        ("     1     1     0x", 4),
+        ("     1     1     4", 4),
+        ("     1     1999999     1\n", 4),
+        ("     1     1    0x     1\n", 1),
+        // List, each number judged before the next is looked at.
+        ("     1     1     1     0\n", 4),
+        ("     1     1     1     4\n", 4),
+        ("     1     1     1    33\n", 4),
+        ("     1     1     1   257\n", 4),
+        ("     1     1     1999999\n", 4),
+        ("     1     1     2     1     1\n", 4),
+        ("     1     1     3     1     2     1\n", 4),
+        ("     1     1     3     1     2     2\n", 4),
+        ("     1     1     3     1     1    0x\n", 4),
+        ("     1     1     3     1     1", 4),
+        ("     1     1     3     1     0    0x\n", 4),
+        ("     1     1     3     1    0x     1\n", 1),
+        ("     1     1     3     1    0x     0\n", 1),
+        ("     1     1     2     1     2     3\n", 1),
+        ("     1     1     2     1\n", 1),
+    ];
+    for before in [0, 1, 2, 57, 198] {
+        let after = [0, 1, 199 - before];
+        for (line, number) in lines {
+            for after in after {
+                let file = around(3, before, line, after);
+                assert_eq!(refused(&file), (number, before as u32 + 2), "{line:?}");
+            }
+        }
+    }
+}
+
+#[test]
+fn the_first_fault_decides() {
+    let place = "     1     2     1     1\n";
+    let length = "     0     1     1     1\n";
+    let list = "     1     1     1     3\n";
+    let form = "     1     1     1    0x\n";
+    let all = [(place, 5), (length, 3), (list, 4), (form, 1)];
+    for (first, number) in all {
+        for (second, _) in all {
+            let file = six(2) + &six(3) + "\n     7     1     1     1\n" + first + second;
+            assert_eq!(refused(file.as_bytes()), (number, 3));
+        }
+        // Left-over bytes and missing lines come last.
+        let file = six(2) + &six(1) + "\n" + first + "left over";
+        assert_eq!(refused(file.as_bytes()), (number, 2));
+        let file = six(2) + &six(9) + "\n" + first;
+        assert_eq!(refused(file.as_bytes()), (number, 2));
+    }
+    // The LF of the first line comes before any batch.
+    let file = text(&[&["     2", "     1", " "], &["     0"]]);
+    assert_eq!(refused(&file), (1, 1));
+}
+
+#[test]
+fn list_of_all_instruments() {
+    for m in 1..=24u32 {
+        let list: Vec<u32> = (1..=m).rev().collect();
+        let sheet = read(&Draft::new(m, &[(5, 0, &list)]).render()).unwrap();
+        assert_eq!(sheet.batches()[0].place(), m as usize);
+        for bad in [0, m + 1] {
+            for k in 0..m as usize {
+                let mut list = list.clone();
+                list[k] = bad;
+                let file = Draft::new(m, &[(5, 0, &list)]).render();
+                assert_eq!(refused(&file), (4, 2));
+            }
+        }
+        for k in 1..m as usize {
+            for i in 0..k {
+                let mut list = list.clone();
+                list[k] = list[i];
+                let file = Draft::new(m, &[(5, 0, &list)]).render();
+                assert_eq!(refused(&file), (4, 2));
+            }
+        }
+        let longer: Vec<u32> = (1..=m + 1).collect();
+        let file = Draft::new(m, &[(5, 0, &longer)]).render();
+        assert_eq!(refused(&file), (4, 2));
+    }
+}
+
+#[test]
+fn every_place() {
+    for m in 1..=24u32 {
+        let list: Vec<u32> = (1..=m).filter(|j| j % 3 != 2).collect();
+        for place in 0..=m + 2 {
+            let file = Draft::new(m, &[(5, place, &list)]).render();
+            if place == 0 || list.contains(&place) {
+                let expected = if place == 0 { 1 } else { place as usize };
+                assert_eq!(read(&file).unwrap().batches()[0].place(), expected);
+            } else {
+                assert_eq!(refused(&file), (5, 2));
+            }
+        }
+    }
+}
+
+#[test]
+fn buffers_of_every_length() {
+    for draft in some_drafts() {
+        let file = draft.render();
+        let listing = program(&file);
+        for room in 0..listing.len() + 20 {
+            let mut buffer = vec![0xee; room];
+            let answer = host(&file, &mut buffer);
+            if room < listing.len() {
+                assert_eq!((answer.refusal, answer.line, answer.length), (9, 0, 0));
+                assert!(buffer.iter().all(|&b| b == 0xee));
+            } else {
+                let found = (answer.refusal, answer.line, answer.length);
+                assert_eq!(found, (0, 0, listing.len()));
+                assert_eq!(&buffer[..listing.len()], listing);
+                assert!(buffer[listing.len()..].iter().all(|&b| b == 0xee));
+            }
+        }
+    }
+}
+
+/// Make an edit that must be refused and see that nothing changed.
+fn turned_down(sheet: &Sheet, call: Call) -> u32 {
+    let mut after = sheet.clone();
+    let Answer::Refused(refusal) = apply(&mut after, &call) else {
+        panic!("not refused: {call:?}");
+    };
+    assert_eq!(&after, sheet);
+    refusal.number()
+}
+
+const ODD: [u64; 6] = [0, 4, 33, 257, 1 << 32, u64::MAX];
+
+#[test]
+fn edits_refused() {
+    let sheet = Draft::new(3, &[(5, 0, &[2, 1]), (6, 0, &[3]), (7, 1, &[1, 2, 3])]).sheet();
+    let bad_lists: Vec<Vec<u64>> = ODD
+        .iter()
+        .flat_map(|&j| [vec![j], vec![1, j], vec![j, 2, 1]])
+        .chain([
+            vec![],
+            vec![1, 1],
+            vec![3, 2, 3],
+            vec![1, 2, 3, 1],
+            vec![1, 2, 3, 4],
+        ])
+        .collect();
+    for list in &bad_lists {
+        for length in [0, 1441, 65_537, 1 << 32, u64::MAX] {
+            let list = list.clone();
+            assert_eq!(turned_down(&sheet, Call::Add { length, list }), 3);
+        }
+        for length in [1, 1440] {
+            let list = list.clone();
+            assert_eq!(turned_down(&sheet, Call::Add { length, list }), 4);
+        }
+        for number in ODD {
+            let list = list.clone();
+            assert_eq!(turned_down(&sheet, Call::Requalify { number, list }), 6);
+        }
+        for number in 1..=3 {
+            let list = list.clone();
+            assert_eq!(turned_down(&sheet, Call::Requalify { number, list }), 4);
+        }
+    }
+    for number in ODD {
+        assert_eq!(turned_down(&sheet, Call::Withdraw { number }), 6);
+        let list = vec![1];
+        assert_eq!(turned_down(&sheet, Call::Requalify { number, list }), 6);
+        for instrument in [0, 1, 9] {
+            let call = Call::Move { number, instrument };
+            assert_eq!(turned_down(&sheet, call), 6);
+        }
+    }
+    for instrument in ODD {
+        for number in 1..=3 {
+            let call = Call::Move { number, instrument };
+            assert_eq!(turned_down(&sheet, call), 5);
+        }
+    }
+    let call = Call::Move {
+        number: 1,
+        instrument: 3,
+    };
+    assert_eq!(turned_down(&sheet, call), 5);
+
+    let full = Draft::new(3, &vec![(5, 0, [2].as_slice()); 200]).sheet();
+    for list in &bad_lists {
+        for length in [0, 1, 1441] {
+            let list = list.clone();
+            assert_eq!(turned_down(&full, Call::Add { length, list }), 7);
+        }
+    }
+    let total = sheet.total() as u64;
+    for level in [total + 1, u64::MAX] {
+        assert_eq!(turned_down(&sheet, Call::Trial { level }), 8);
+    }
+}
+
+#[test]
+fn edits_made() {
+    let mut sheet = Draft::new(4, &[(5, 0, &[2, 1]), (6, 0, &[3]), (7, 1, &[1, 2, 3])]).sheet();
+    sheet.add(1440, &[4, 2]).unwrap();
+    assert_eq!(sheet.places(), [2, 3, 1, 4]);
+    sheet.shift(4, 2).unwrap();
+    sheet.shift(1, 2).unwrap();
+    sheet.shift(1, 1).unwrap();
+    assert_eq!(sheet.places(), [1, 3, 1, 2]);
+    // Kept where the place is listed, wherever it stands in the list.
+    sheet.requalify(4, &[3, 2]).unwrap();
+    assert_eq!(sheet.places(), [1, 3, 1, 2]);
+    // Otherwise the first listed.
+    sheet.requalify(4, &[4, 1]).unwrap();
+    assert_eq!(sheet.places(), [1, 3, 1, 4]);
+    assert_eq!(sheet.batches()[3].list(), [4, 1]);
+    sheet.withdraw(2).unwrap();
+    assert_eq!(sheet.places(), [1, 1, 4]);
+    let lengths: Vec<u32> = sheet.batches().iter().map(Batch::length).collect();
+    assert_eq!(lengths, [5, 7, 1440]);
+    sheet.withdraw(3).unwrap();
+    sheet.withdraw(1).unwrap();
+    sheet.withdraw(1).unwrap();
+    assert_eq!(sheet, Sheet::empty(4).unwrap());
+    assert_eq!(sheet.withdraw(1), Err(Refusal::NoBatch));
+}
