@@ -26,6 +26,9 @@ need rustc rustc
 echo "== layout"
 rt fmt --check
 
+echo "== documents"
+bash scripts/demands.sh
+
 echo "== proofs, must-fail edits and programs"
 log=$(mktemp)
 trap 'rm -f "$log"' EXIT

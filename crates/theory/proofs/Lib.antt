@@ -30,3 +30,6 @@ pub mod Parse
 pub mod Sound
 pub mod Planning
 pub mod Runs
+pub mod Iterate
+pub mod Turn
+pub mod Handed

@@ -33,7 +33,7 @@ target-better I x b r = from (least (I .m) (elsewhere I x b) (load I x))
 
     from : {t : ℕ} → Least (I .m) (elsewhere I x b) (load I x) t → (0 < t) × (t ≤ I .m) × Better I x b t
     from (nowhere h) = conflict off (h (r .machine) (r .low) (r .high))
-    from (found j l t h) =
+    from (found j l t h d) =
         let e = elsewhere-is I x b (suc j) t in (
           omega arith,
           l,

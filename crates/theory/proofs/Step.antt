@@ -33,7 +33,7 @@ unfolding pushOr liftOver
 deeds-of (First.found j l e z) v =
     pushes j l (and-left _ _ e) (eqb-true _ _ (and-right _ _ e))
 deeds-of (First.nowhere z) (Least.nowhere y) = alone y
-deeds-of {high = high} {h = h} (First.nowhere z) (Least.found j l e y) =
+deeds-of {high = high} {h = h} (First.nowhere z) (Least.found j l e y d) =
     byTest (leb h (high (suc j))) (λ t. rw t (lifts j l e (leb-true _ _ t) y)) (λ t. rw t (tooHigh z j l e (leb-false _ _ t)))
 
 pub deeds : (c : ℕ) (arc : ℕ → Bool) (high : ℕ → ℕ) (h : ℕ) → Deeds c arc high h (deed c arc high h)

@@ -15,7 +15,7 @@ use borrow.Author.Tests.{eqb-true, eqb-false, eq-eqb, ne-eqb, ltb-true, leb-true
 use Rattle.rules.specs.Fold.{_and_, pick, at, put, sumTo, anyTo}
 use Rattle.rules.specs.Instance.{Instance, Assignment, n, eligible, minutesOf}
 use Rattle.rules.specs.Load.{load, longest, elsewhere}
-use Rattle.rules.specs.Trial.{State, can, Act, act, after, overloaded, underloaded, someUnderloaded, jobDeed, machineDeed, jobArc, start}
+use Rattle.rules.specs.Trial.{State, can, Act, act, after, pushed, overloaded, underloaded, someUnderloaded, jobDeed, machineDeed, jobArc, start}
 use Rattle.theory.proofs.Logic.{conflict, and-left, and-right, and-mk}
 use Rattle.theory.proofs.Fold.{at-put-same, at-put-other}
 use Rattle.theory.proofs.View.{None, Some, here, any-some, any-at, any-none, sum-some}
@@ -126,6 +126,16 @@ overloaded-can I a s i v i0 o h =
     on b true e g = eqb-true _ _ e
     on b false e g = absurd (omega arith)
 
+-- a job taken off leaves an underloaded machine underloaded
+pub off-underloaded : (I : Instance) (a : ℕ) (s : State) (b : ℕ) → length (s .assignment) ≡ n I → 0 < b → b ≤ n I
+    → someUnderloaded I a s ≡ true → someUnderloaded I a (pushed s b 0) ≡ true
+unfolding someUnderloaded underloaded
+off-underloaded I a s b l p q t = still (any-some (I .m) _ t)
+  where
+    still : Some (I .m) (λ i. leb (load I (s .assignment) i) a) → anyTo (I .m) (λ i. leb (load I (put (s .assignment) b 0) i) a) ≡ true
+    still (here j j0 jm r) =
+        any-at (I .m) _ j j0 jm (le-leb _ _ (le-trans (load-fall I (s .assignment) b j l p q j0) (leb-true _ _ r)))
+
 hand : {I : Instance} {a : ℕ} {s : State} {x : Act} → Runnable I → Step I a s x → Shape I s → Hand I a s → Hand I a (after s x)
 unfolding Runnable someUnderloaded underloaded
 hand z (Step.noUnderloaded t) v h = h
@@ -144,12 +154,7 @@ hand z (Step.jobLift b i lb li u e g y) v (one c c0 cn p w t) = one c c0 cn p w 
 hand {I} {a} {s} z (Step.machinePush t f i b li lb u o e g) v (whole h) =
     one (suc b) (omega arith) lb (at-put-same (s .assignment) (suc b) 0 (omega arith) (omega (arith, v .jobs)))
     (λ c c0 cn ne. rw (at-put-other (s .assignment) (suc b) c 0 ne) (h c c0 cn))
-    (still (any-some (I .m) _ t))
-  where
-    still : Some (I .m) (λ i. leb (load I (s .assignment) i) a) → anyTo (I .m) (λ i. leb (load I (put (s .assignment) (suc b) 0) i) a) ≡ true
-    still (here j p q r) =
-        any-at (I .m) _ j p q
-        (le-leb _ _ (le-trans (load-fall I (s .assignment) (suc b) j (v .jobs) (omega arith) lb p) (leb-true _ _ r)))
+    (off-underloaded I a s (suc b) (v .jobs) (omega arith) lb t)
 hand {I} {a} {s} z (Step.machinePush t f i b li lb u o e g) v (one c c0 cn p w r) =
     conflict (unplaced-can I a s c v p (z c c0 cn)) (f c c0 cn)
 hand z (Step.machineLift f i b li lb u o e g y) v (whole h) = whole h

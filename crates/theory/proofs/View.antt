@@ -38,27 +38,30 @@ unfolding firstTo
 first zero p = nowhere (λ i l u. absurd (omega arith))
 first (suc k) p = first-suc (first k p)
 
--- r is, of those of 1 to k that pass, one of least f
+-- r is, of those of 1 to k that pass, the lowest of least f
 pub data Least (k : ℕ) (p : ℕ → Bool) (f : ℕ → ℕ) : ℕ → Type 0 where
   nowhere : None k p → Least k p f 0
   found : (j : ℕ) → j < k → p (suc j) ≡ true
-      → ((i : ℕ) → 0 < i → i ≤ k → p i ≡ true → f (suc j) ≤ f i) → Least k p f (suc j)
+      → ((i : ℕ) → 0 < i → i ≤ k → p i ≡ true → f (suc j) ≤ f i)
+      → ((i : ℕ) → 0 < i → i ≤ j → p i ≡ true → f (suc j) < f i) → Least k p f (suc j)
 
 least-suc : {k : ℕ} {p : ℕ → Bool} {f : ℕ → ℕ} {r : ℕ} → Least k p f r → (t : Bool) → p (suc k) ≡ t → Least (suc k) p f (lesser f r t (suc k))
 unfolding lesser
 least-suc (nowhere h) false e = nowhere (none-suc h e)
 least-suc {k} {p} {f} (nowhere h) true e =
     found k (le-refl (suc k)) e (upto (λ i. p i ≡ true → f (suc k) ≤ f i) (λ i l u t. conflict t (h i l u)) (λ t. le-refl _))
-least-suc {k} {p} {f} (found j l q h) false e =
-    found j (omega arith) q (upto (λ i. p i ≡ true → f (suc j) ≤ f i) h (λ t. conflict t e))
-least-suc {k} {p} {f} (found j l q h) true e =
+    (λ i l u t. conflict t (h i l u))
+least-suc {k} {p} {f} (found j l q h d) false e =
+    found j (omega arith) q (upto (λ i. p i ≡ true → f (suc j) ≤ f i) h (λ t. conflict t e)) d
+least-suc {k} {p} {f} (found j l q h d) true e =
     byTest (ltb (f (suc k)) (f (suc j)))
     (λ t. rw t
     (found k (le-refl (suc k)) e
-    (upto (λ i. p i ≡ true → f (suc k) ≤ f i) (λ i l u z. omega (arith, h i l u z, ltb-true)) (λ z. le-refl _))))
+    (upto (λ i. p i ≡ true → f (suc k) ≤ f i) (λ i l u z. omega (arith, h i l u z, ltb-true)) (λ z. le-refl _))
+    (λ i l u z. omega (arith, h i l (omega arith) z, ltb-true (f (suc k)) (f (suc j)) t))))
     (λ t. rw t
     (found j (omega arith) q
-    (upto (λ i. p i ≡ true → f (suc j) ≤ f i) h (λ z. ltb-false _ _ t))))
+    (upto (λ i. p i ≡ true → f (suc j) ≤ f i) h (λ z. ltb-false _ _ t)) d))
 
 pub least : (k : ℕ) (p : ℕ → Bool) (f : ℕ → ℕ) → Least k p f (leastTo k p f)
 unfolding leastTo

@@ -1,0 +1,5 @@
+pub mod Sets
+pub mod Reads
+pub mod Track
+pub mod Floor
+pub mod Jobs

@@ -1,0 +1,70 @@
+-- What the calls answer, by the rules: each case of an enum with document 01's number and values.
+-- Assumes nothing.
+use Prim.Native.Nat.{ℕ}
+use mathlib.Core.Path.{_≡_, refl}
+use mathlib.Core.List.{List}
+use Rattle.rules.specs.Refusal.{malformed, badSize, badLength, badList, badPlace, noBatch, sheetFull, levelAbove, bufferShort, number}
+use Rattle.rules.specs.Refusal as R
+use Rattle.rules.specs.Edit as E
+use Rattle.rules.specs.Read as D
+use Rattle.sheet.specs.declared.Sheet.{Sheet}
+use Rattle.sheet.specs.declared.Edited.{Edited}
+use Rattle.sheet.specs.declared.Reading.{Reading}
+use Rattle.sheet.specs.declared.Refusal.{Refusal}
+use Rattle.sheet.specs.declared.Refusal.the-variants.{Nothing, Malformed, BadSize, BadLength, BadList, BadPlace, NoBatch, SheetFull, LevelAbove, BufferShort}
+use Rattle.sheet.specs.Represent.{sheetOf, bookOf, blank}
+
+-- a refusal's number in document 01; 0 for none
+abbrev pub numberOf : Refusal → ℕ
+numberOf Nothing = 0
+numberOf Malformed = 1
+numberOf BadSize = 2
+numberOf BadLength = 3
+numberOf BadList = 4
+numberOf BadPlace = 5
+numberOf NoBatch = 6
+numberOf SheetFull = 7
+numberOf LevelAbove = 8
+numberOf BufferShort = 9
+
+-- the enum's case for each refusal of the rules
+abbrev pub coded : R.Refusal → Refusal
+coded malformed = Malformed
+coded badSize = BadSize
+coded badLength = BadLength
+coded badList = BadList
+coded badPlace = BadPlace
+coded noBatch = NoBatch
+coded sheetFull = SheetFull
+coded levelAbove = LevelAbove
+coded bufferShort = BufferShort
+
+-- both have one number
+pub coded-number : (e : R.Refusal) → numberOf (coded e) ≡ number e
+coded-number malformed = refl
+coded-number badSize = refl
+coded-number badLength = refl
+coded-number badList = refl
+coded-number badPlace = refl
+coded-number noBatch = refl
+coded-number sheetFull = refl
+coded-number levelAbove = refl
+coded-number bufferShort = refl
+
+-- ---- edits: on a refusal the very same sheet
+
+abbrev pub editedAs : Sheet → E.Edited → Edited
+editedAs s (E.refused e) = record { refusal = coded e; sheet = s }
+editedAs s (E.edited k) = record { refusal = Nothing; sheet = sheetOf k }
+
+unfoldable pub editOf : Sheet → E.Edit → Edited
+editOf s e = editedAs s (E.edit (bookOf s) e)
+
+-- ---- reading
+
+abbrev pub readAs : D.Reading → Reading
+readAs (D.accepted k) = record { refusal = Nothing; line = 0; sheet = sheetOf k }
+readAs (D.refusedAt e j) = record { refusal = coded e; line = j; sheet = blank }
+
+unfoldable pub readOf : List ℕ → Reading
+readOf s = readAs (D.read s)

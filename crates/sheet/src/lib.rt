@@ -1,0 +1,65 @@
+// The sheet: m instruments and up to 200 batches, read from a file and edited. A sheet goes in by value and comes back.
+ghost use mathlib.Core.Path.{_≡_};
+ghost use Rattle.sheet.specs.Represent.{blank};
+
+pub mod edit;
+pub mod read;
+
+// Document 01's refusals, by name; Nothing is none.
+pub enum Refusal {
+    Nothing,
+    Malformed,
+    BadSize,
+    BadLength,
+    BadList,
+    BadPlace,
+    NoBatch,
+    SheetFull,
+    LevelAbove,
+    BufferShort,
+}
+
+// What a sheet holds, in arrays: batch b's list starts at 24 (b - 1) in lists. Whatever is not used is 0.
+pub struct Sheet {
+    m: usize,
+    n: usize,
+    minutes: [u16; 200],
+    places: [u8; 200],
+    counts: [u8; 200],
+    lists: [u8; 4800],
+}
+
+// What an edit answers: its refusal, or Nothing, and the sheet, which a refusal leaves as it was.
+pub struct Edited {
+    pub refusal: Refusal,
+    pub sheet: Sheet,
+}
+
+// What reading answers: the refusal and its line, and the blank value, or Nothing, 0 and the sheet.
+pub struct Reading {
+    pub refusal: Refusal,
+    pub line: usize,
+    pub sheet: Sheet,
+}
+
+impl Sheet {
+    pub const INSTRUMENTS: usize = 24;
+
+    pub const BATCHES: usize = 200;
+
+    pub const MINUTES: usize = 1440;
+
+    // The blank value, which is no sheet: it has no instrument.
+    pub fn new() -> Self
+        ensures { λ r. ⌜ r ≡ blank ⌝ }
+    {
+        Self {
+            m: 0,
+            n: 0,
+            minutes: [0u16; 200],
+            places: [0u8; 200],
+            counts: [0u8; 200],
+            lists: [0u8; 4800],
+        }
+    }
+}
