@@ -23,8 +23,7 @@ abbrev pub shiftAt : List ℕ → ℕ → ℕ → ℕ → List ℕ
 shiftAt l i j w = set (set l i (getD l i 0 - w)) j (getD (set l i (getD l i 0 - w)) j 0 + w)
 
 module _ (machines jobs places loads levels : List ℕ) (lifts pushes : ℕ) {I : Instance} {a limit m c : ℕ} {lengths sets : List ℕ} {i b : ℕ}
-  (v : Giving I a limit m c lengths sets i b (arrays machines jobs places loads levels lifts pushes)) where
-
+    (v : Giving I a limit m c lengths sets i b (arrays machines jobs places loads levels lifts pushes)) where
   t : State
   t = arrays machines jobs places loads levels lifts pushes
 

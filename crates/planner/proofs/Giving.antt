@@ -107,7 +107,7 @@ module _ {I : Instance} {a limit m c : ℕ} {lengths sets : List ℕ} {i b : ℕ
   heavy =
       let x = v .turn .tracks .loads (suc i) (omega arith) (machine-in I a t i (v .turn)) in
       let y = load-ge I (take (n I) (t .places)) (suc b) (suc i) (omega arith) (here-it .job)
-          (at-take (n I) (t .places) (suc b) (here-it .job) ∙ here-it .on) in
+      (at-take (n I) (t .places) (suc b) (here-it .job) ∙ here-it .on) in
       omega (arith, x, y, minutes-at)
 
   module _ (machine height : ℕ) (l : LowestIn (getD sets b 0) (t .levels) (getD (t .jobs) b 0 - 1) machine height) where

@@ -18,3 +18,8 @@ pub mod Bits
 pub mod Words
 pub mod Masks
 pub mod Levels
+pub mod Gains
+pub mod Placing
+pub mod Relocate
+pub mod Settles
+pub mod Reviewing

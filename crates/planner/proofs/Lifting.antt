@@ -28,9 +28,8 @@ use Rattle.planner.proofs.Going.{able-by}
 use Rattle.planner.proofs.Raising.{raiseOn, lowest-by, raise-on, raise-tracks}
 
 module _ {I : Instance} {a limit m c : ℕ} {lengths sets : List ℕ} (u : Setup I a limit m c lengths sets) (t : State) (i : ℕ)
-  (k : Turn I a (suc i) t) (z : nextOff I (stateOf (I .m) (n I) t) (suc i) ≡ 0) (low : ℕ)
-  (e : low ≡ at (t .jobs) (leastTo c (λ b. eqb (at (t .places) b) (i + 1)) (λ b. at (t .jobs) b))) where
-
+    (k : Turn I a (suc i) t) (z : nextOff I (stateOf (I .m) (n I) t) (suc i) ≡ 0) (low : ℕ)
+    (e : low ≡ at (t .jobs) (leastTo c (λ b. eqb (at (t .places) b) (i + 1)) (λ b. at (t .jobs) b))) where
   low-is : low ≡ lowestOn I (stateOf (I .m) (n I) t) (suc i)
   low-is = (rw (add-one i) at e) ∙ lowest-by I a t u i
 

@@ -40,7 +40,7 @@ raiseOn t i h levels = record {
 
 -- ---- searches that agree
 
-least-le : (k : ℕ) (p : ℕ → Bool) (f : ℕ → ℕ) → leastTo k p f ≤ k
+pub least-le : (k : ℕ) (p : ℕ → Bool) (f : ℕ → ℕ) → leastTo k p f ≤ k
 least-le k p f = from (least k p f)
   where
     from : {r : ℕ} → Least k p f r → r ≤ k

@@ -37,7 +37,7 @@ module _ {I : Instance} {a limit m c : ℕ} {lengths sets : List ℕ} {t : State
   rests-none e f = record { leads = here; tracks = track-rest (v .tracks); rests = λ x. rests-stuck I a t (v .setup) (v .tracks) e f }
 
   module _ (e : anyTo m (λ q. leb (at (t .loads) q) a) ≡ true) (r : ℕ)
-    (f : r ≡ firstTo m (λ q. ltb limit (at (t .loads) q) and leb (at (t .machines) q) (2 * m))) (r0 : 0 < r) where
+      (f : r ≡ firstTo m (λ q. ltb limit (at (t .loads) q) and leb (at (t .machines) q) (2 * m))) (r0 : 0 < r) where
     pub in-bank : r ≤ m
     in-bank = from (rw (← f) at (first m (λ q. ltb limit (at (t .loads) q) and leb (at (t .machines) q) (2 * m)))) r0
       where
@@ -61,7 +61,7 @@ module _ {I : Instance} {a limit m c : ℕ} {lengths sets : List ℕ} {t : State
 
     -- the turn has ended, and the machine is lifted
     module _ {t′ : State} {stops : Bool} (w : Went I a (r - 1) (plain t) t′ stops) (q : stops ≡ false) (low : ℕ)
-      (l : low ≡ at (t′ .jobs) (leastTo c (λ b. eqb (at (t′ .places) b) (r - 1 + 1)) (λ b. at (t′ .jobs) b))) where
+        (l : low ≡ at (t′ .jobs) (leastTo c (λ b. eqb (at (t′ .places) b) (r - 1 + 1)) (λ b. at (t′ .jobs) b))) where
       pub raised : (levels : List ℕ) → Lifted (t′ .levels) levels (suc (r - 1)) (getD (t′ .machines) (r - 1) 0) (low + 1)
           → Stepped I a t (lifted (v .setup) t′ (r - 1) (w .turn q) (w .none q) low l levels)
       raised levels g = record {

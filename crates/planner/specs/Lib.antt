@@ -3,3 +3,4 @@ pub mod Reads
 pub mod Track
 pub mod Floor
 pub mod Jobs
+pub mod Settling

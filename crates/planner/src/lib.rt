@@ -1,6 +1,8 @@
 // The planner over the sheet: review, the single trial, settling, balance and planning.
+pub mod review;
 pub mod scan;
 pub mod sets;
+pub mod settle;
 pub mod step;
 
 // A trial between two steps: the heights of machines and jobs and the places, and beside them, for speed, the loads, the set of

@@ -111,7 +111,23 @@ struct Gave {
 }
 
 // Machine i hands job b over to the least machine that it may run on: both by index.
-fn give(places: &mut [u8], jobs: &mut [u8], loads: &mut [u32], machines: &[u8], levels: &[u32], minutes: &[u16], masks: &[u32], m: usize, n: usize, a: u32, limit: u32, i: usize, b: usize, lifts: u32, pushes: u32) -> Gave
+fn give(
+    places: &mut [u8],
+    jobs: &mut [u8],
+    loads: &mut [u32],
+    machines: &[u8],
+    levels: &[u32],
+    minutes: &[u16],
+    masks: &[u32],
+    m: usize,
+    n: usize,
+    a: u32,
+    limit: u32,
+    i: usize,
+    b: usize,
+    lifts: u32,
+    pushes: u32,
+) -> Gave
     requires { ⌜ ((I : Instance) × Giving I a limit m n (now minutes) (now masks) i b (arrays (now machines) (now jobs) (now places) (now loads) (now levels) lifts pushes)) ⌝ }
     requires { ⌜ (n ≤ length (now minutes)) × (n ≤ length (now masks)) × (n ≤ length (now places)) × (n ≤ length (now jobs)) × (length (now machines) ≡ 24) ⌝ }
     ensures { λ r. ⌜ Gives a limit m n (now (minutes .entry)) (now (masks .entry)) i b
@@ -143,7 +159,22 @@ struct Turned {
 }
 
 // Machine i, by index, hands over the jobs that stand just below it, lowest first, as long as it is its turn.
-fn hand_over(places: &mut [u8], jobs: &mut [u8], loads: &mut [u32], machines: &[u8], levels: &[u32], minutes: &[u16], masks: &[u32], m: usize, n: usize, a: u32, limit: u32, i: usize, lifts: u32, pushes: u32) -> Turned
+fn hand_over(
+    places: &mut [u8],
+    jobs: &mut [u8],
+    loads: &mut [u32],
+    machines: &[u8],
+    levels: &[u32],
+    minutes: &[u16],
+    masks: &[u32],
+    m: usize,
+    n: usize,
+    a: u32,
+    limit: u32,
+    i: usize,
+    lifts: u32,
+    pushes: u32,
+) -> Turned
     requires { ⌜ ((I : Instance) × Passing I a limit m n (now minutes) (now masks) i (arrays (now machines) (now jobs) (now places) (now loads) (now levels) lifts pushes)) ⌝ }
     requires { ⌜ (n ≤ length (now minutes)) × (n ≤ length (now masks)) × (n ≤ length (now places)) × (n ≤ length (now jobs)) × (length (now machines) ≡ 24) ⌝ }
     ensures { λ r. ⌜ Goes a limit m n (now (minutes .entry)) (now (masks .entry)) i
@@ -166,7 +197,23 @@ fn hand_over(places: &mut [u8], jobs: &mut [u8], loads: &mut [u32], machines: &[
                 stopped: false,
             };
         }
-        let g = give(places, jobs, loads, machines, levels, minutes, masks, m, n, a, limit, i, b - 1, l, p);
+        let g = give(
+            places,
+            jobs,
+            loads,
+            machines,
+            levels,
+            minutes,
+            masks,
+            m,
+            n,
+            a,
+            limit,
+            i,
+            b - 1,
+            l,
+            p,
+        );
         l = g.lifts;
         p = g.pushes;
         if !g.stays {
@@ -191,7 +238,15 @@ fn rested(t: State) -> State
 
 // One step of a trial: the lowest machine that may act hands over the jobs just below it, while it is its turn, and is lifted when
 // there is none left. Where nothing acts the state rests.
-pub fn step(t: State, minutes: &[u16], masks: &[u32], m: usize, n: usize, a: u32, limit: u32) -> State
+pub fn step(
+    t: State,
+    minutes: &[u16],
+    masks: &[u32],
+    m: usize,
+    n: usize,
+    a: u32,
+    limit: u32,
+) -> State
     requires { ⌜ ((I : Instance) × Stepping I a limit m n (now minutes) (now masks) t) ⌝ }
     requires { ⌜ (n ≤ length (now minutes)) × (n ≤ length (now masks)) ⌝ }
     ensures { λ r. ⌜ Steps a limit m n (now (minutes .entry)) (now (masks .entry)) t r ⌝ }
@@ -210,7 +265,22 @@ pub fn step(t: State, minutes: &[u16], masks: &[u32], m: usize, n: usize, a: u32
     if i == 0 {
         return rested(t);
     }
-    let r = hand_over(&mut places, &mut jobs, &mut loads, &machines, &levels, minutes, masks, m, n, a, limit, i - 1, t.lifts, t.pushes);
+    let r = hand_over(
+        &mut places,
+        &mut jobs,
+        &mut loads,
+        &machines,
+        &levels,
+        minutes,
+        masks,
+        m,
+        n,
+        a,
+        limit,
+        i - 1,
+        t.lifts,
+        t.pushes,
+    );
     if r.stopped {
         return State {
             machines,

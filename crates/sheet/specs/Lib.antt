@@ -1,2 +1,4 @@
 pub mod Represent
 pub mod Answers
+pub mod Change
+pub mod Lines

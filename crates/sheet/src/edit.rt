@@ -1,1 +1,311 @@
-// The edits.
+// The edits: each takes a sheet and gives it back, changed or, on a refusal, as it was.
+ghost use Prim.Native.Nat.{ℕ, _+_, _*_, _<_, _≤_};
+ghost use mathlib.Core.Path.{_≡_};
+ghost use lib.ListN.{length, getD, take, drop};
+ghost use lib.Dec.{leb};
+ghost use Rattle.rules.specs.Fold.{_and_, mem, every};
+ghost use Rattle.rules.specs.Sheet.{isInstrument, distinct, goodList};
+ghost use Rattle.rules.specs.Edit.{kept, add as adding, withdraw as withdrawing, requalify as requalifying, move as moving};
+ghost use Rattle.sheet.specs.Represent.{Sound, padded};
+ghost use Rattle.sheet.specs.Answers.{editOf};
+ghost use Rattle.sheet.specs.Change.{cut, removed, requalified};
+use crate::Edited;
+use crate::Refusal;
+use crate::Sheet;
+use crate::enter_row;
+
+impl Sheet {
+    // A batch more, at the end, on the first listed.
+    pub fn add(self, minutes: u32, list: &[u32]) -> Edited
+        requires { ⌜ Sound self ⌝ }
+        ensures { λ r. ⌜ r ≡ editOf self (adding minutes (now (list .entry))) ⌝ }
+    {
+        let n = self.n;
+        let m = self.m;
+        if n >= Sheet::BATCHES {
+            return Edited {
+                refusal: Refusal::SheetFull,
+                sheet: self,
+            };
+        }
+        if !within(minutes as usize, Sheet::MINUTES) {
+            return Edited {
+                refusal: Refusal::BadLength,
+                sheet: self,
+            };
+        }
+        if !good_list(list, m) {
+            return Edited {
+                refusal: Refusal::BadList,
+                sheet: self,
+            };
+        }
+        let row = row_of(list);
+        let place = row[0];
+        let sheet = self.appended(minutes as u16, place, list.len() as u8, row);
+        Edited {
+            refusal: Refusal::Nothing,
+            sheet,
+        }
+    }
+
+    // The batch taken out; the later ones move down by one.
+    pub fn withdraw(self, batch: u32) -> Edited
+        requires { ⌜ Sound self ⌝ }
+        ensures { λ r. ⌜ r ≡ editOf self (withdrawing batch) ⌝ }
+    {
+        let n = self.n;
+        let b = batch as usize;
+        if !within(b, n) {
+            return Edited {
+                refusal: Refusal::NoBatch,
+                sheet: self,
+            };
+        }
+        let sheet = self.removed(b - 1);
+        Edited {
+            refusal: Refusal::Nothing,
+            sheet,
+        }
+    }
+
+    // A new list; the place is kept where it is listed, and is the first listed otherwise.
+    pub fn requalify(self, batch: u32, list: &[u32]) -> Edited
+        requires { ⌜ Sound self ⌝ }
+        ensures { λ r. ⌜ r ≡ editOf self (requalifying batch (now (list .entry))) ⌝ }
+    {
+        let n = self.n;
+        let m = self.m;
+        let b = batch as usize;
+        if !within(b, n) {
+            return Edited {
+                refusal: Refusal::NoBatch,
+                sheet: self,
+            };
+        }
+        if !good_list(list, m) {
+            return Edited {
+                refusal: Refusal::BadList,
+                sheet: self,
+            };
+        }
+        let row = row_of(list);
+        let at = b - 1;
+        let place = kept_place(self.places[at], list);
+        let sheet = self.requalified(at, place, list.len() as u8, row);
+        Edited {
+            refusal: Refusal::Nothing,
+            sheet,
+        }
+    }
+
+    // Another place of the batch's list.
+    pub fn move_to(mut self, batch: u32, instrument: u32) -> Edited
+        requires { ⌜ Sound self ⌝ }
+        ensures { λ r. ⌜ r ≡ editOf self (moving batch instrument) ⌝ }
+    {
+        let n = self.n;
+        let b = batch as usize;
+        if !within(b, n) {
+            return Edited {
+                refusal: Refusal::NoBatch,
+                sheet: self,
+            };
+        }
+        let at = b - 1;
+        let count = self.counts[at];
+        let lists = self.lists;
+        if !listed(&lists, at * Sheet::INSTRUMENTS, count as usize, instrument) {
+            return Edited {
+                refusal: Refusal::BadPlace,
+                sheet: self,
+            };
+        }
+        self.places[at] = instrument as u8;
+        Edited {
+            refusal: Refusal::Nothing,
+            sheet: self,
+        }
+    }
+
+    // The arrays without the batch at the index at.
+    fn removed(self, at: usize) -> Sheet
+        requires { ⌜ (at < 200) × (0 < self .n) ⌝ }
+        ensures { λ r. ⌜ r ≡ removed self at ⌝ }
+    {
+        let n = self.n;
+        let m = self.m;
+        let mut minutes = self.minutes;
+        shift_minutes(&mut minutes, at, 1);
+        let mut places = self.places;
+        shift_down(&mut places, at, 1);
+        let mut counts = self.counts;
+        shift_down(&mut counts, at, 1);
+        let mut lists = self.lists;
+        shift_down(&mut lists, at * Sheet::INSTRUMENTS, Sheet::INSTRUMENTS);
+        Sheet {
+            m,
+            n: n - 1,
+            minutes,
+            places,
+            counts,
+            lists,
+        }
+    }
+
+    // The batch at the index at with another place and list.
+    fn requalified(mut self, at: usize, place: u8, count: u8, row: [u8; 24]) -> Sheet
+        requires { ⌜ at < 200 ⌝ }
+        ensures { λ r. ⌜ r ≡ requalified self at place count row ⌝ }
+    {
+        self.places[at] = place;
+        self.counts[at] = count;
+        let mut lists = self.lists;
+        enter_row(&mut lists, at * Sheet::INSTRUMENTS, &row);
+        self.lists = lists;
+        self
+    }
+}
+
+// x is one of 1 to k.
+fn within(x: usize, k: usize) -> bool
+    ensures { λ r. ⌜ r ≡ leb 1 x and leb x k ⌝ }
+{
+    if x == 0 {
+        return false;
+    }
+    x <= k
+}
+
+// A list that a batch may have on m instruments. A long one is refused before repeats are looked for.
+fn good_list(list: &[u32], m: usize) -> bool
+    ensures { λ r. ⌜ r ≡ goodList m (now (list .entry)) ⌝ }
+{
+    if list.len() == 0 {
+        return false;
+    }
+    if m < list.len() {
+        return false;
+    }
+    if !all_instruments(list, m) {
+        return false;
+    }
+    all_distinct(list)
+}
+
+// Each number is one of 1 to m.
+fn all_instruments(list: &[u32], m: usize) -> bool
+    ensures { λ r. ⌜ r ≡ every (isInstrument m) (now (list .entry)) ⌝ }
+{
+    let mut i = 0;
+    while i < list.len() {
+        if !within(list[i] as usize, m) {
+            return false;
+        }
+        i += 1;
+    }
+    true
+}
+
+// No number twice.
+fn all_distinct(list: &[u32]) -> bool
+    ensures { λ r. ⌜ r ≡ distinct (now (list .entry)) ⌝ }
+{
+    let mut i = 0;
+    while i < list.len() {
+        if named_from(list, i + 1, list[i]) {
+            return false;
+        }
+        i += 1;
+    }
+    true
+}
+
+// The entries from from on name x.
+fn named_from(list: &[u32], from: usize, x: u32) -> bool
+    ensures { λ r. ⌜ r ≡ mem x (drop from (now (list .entry))) ⌝ }
+{
+    let mut i = from;
+    while i < list.len() {
+        if list[i] == x {
+            return true;
+        }
+        i += 1;
+    }
+    false
+}
+
+// The count entries from from on name x.
+fn listed(lists: &[u8], from: usize, count: usize, x: u32) -> bool
+    requires { ⌜ from + count ≤ length (now lists) ⌝ }
+    ensures { λ r. ⌜ r ≡ mem x (take count (drop from (now (lists .entry)))) ⌝ }
+{
+    let end = from + count;
+    let mut i = from;
+    while i < end {
+        if lists[i] as u32 == x {
+            return true;
+        }
+        i += 1;
+    }
+    false
+}
+
+// A list as a row of a sheet.
+fn row_of(list: &[u32]) -> [u8; 24]
+    requires { ⌜ length (now list) ≤ 24 ⌝ ∗ ⌜ ((i : ℕ) → i < length (now list) → getD (now list) i 0 < 256) ⌝ }
+    ensures { λ r. ⌜ r ≡ padded 24 (now (list .entry)) ⌝ }
+{
+    let mut row = [0u8; 24];
+    let mut i = 0;
+    while i < list.len() {
+        row[i] = list[i] as u8;
+        i += 1;
+    }
+    row
+}
+
+// The place where it is listed, and the first listed otherwise.
+fn kept_place(place: u8, list: &[u32]) -> u8
+    requires { ⌜ 0 < length (now list) ⌝ ∗ ⌜ getD (now list) 0 0 < 256 ⌝ }
+    ensures { λ r. ⌜ r ≡ kept place (now (list .entry)) ⌝ }
+{
+    if named_from(list, 0, place as u32) {
+        return place;
+    }
+    list[0] as u8
+}
+
+// The entries from at + by on move down by by; the last ones are 0.
+fn shift_down(a: &mut [u8], at: usize, by: usize)
+    requires { ⌜ at + by ≤ length (now a) ⌝ }
+    ensures { λ r. ⌜ now (a .exit) ≡ cut at by (now (a .entry)) ⌝ }
+{
+    let end = a.len() - by;
+    let mut i = at;
+    while i < a.len() {
+        if i < end {
+            a[i] = a[i + by];
+        } else {
+            a[i] = 0;
+        }
+        i += 1;
+    }
+}
+
+// The same for minutes.
+fn shift_minutes(minutes: &mut [u16], at: usize, by: usize)
+    requires { ⌜ at + by ≤ length (now minutes) ⌝ }
+    ensures { λ r. ⌜ now (minutes .exit) ≡ cut at by (now (minutes .entry)) ⌝ }
+{
+    let end = minutes.len() - by;
+    let mut i = at;
+    while i < minutes.len() {
+        if i < end {
+            minutes[i] = minutes[i + by];
+        } else {
+            minutes[i] = 0;
+        }
+        i += 1;
+    }
+}

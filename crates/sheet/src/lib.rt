@@ -1,6 +1,9 @@
 // The sheet: m instruments and up to 200 batches, read from a file and edited. A sheet goes in by value and comes back.
 ghost use mathlib.Core.Path.{_≡_};
-ghost use Rattle.sheet.specs.Represent.{blank};
+ghost use Prim.Native.Nat.{_+_, _*_, _<_, _≤_};
+ghost use lib.ListN.{length};
+ghost use lib.Seq.{paste};
+ghost use Rattle.sheet.specs.Represent.{appended, blank};
 
 pub mod edit;
 pub mod read;
@@ -61,5 +64,33 @@ impl Sheet {
             counts: [0u8; 200],
             lists: [0u8; 4800],
         }
+    }
+
+    // One batch more, the last; its list stands at the front of row.
+    fn appended(mut self, minutes: u16, place: u8, count: u8, row: [u8; 24]) -> Sheet
+        requires { ⌜ self .n < 200 ⌝ }
+        ensures { λ r. ⌜ r ≡ appended self minutes place count row ⌝ }
+    {
+        let n = self.n;
+        self.minutes[n] = minutes;
+        self.places[n] = place;
+        self.counts[n] = count;
+        let mut lists = self.lists;
+        enter_row(&mut lists, n * 24, &row);
+        self.lists = lists;
+        self.n = n + 1;
+        self
+    }
+}
+
+// The 24 entries from at on become those of row.
+fn enter_row(a: &mut [u8], at: usize, row: &[u8])
+    requires { ⌜ at + 24 ≤ length (now a) ⌝ ∗ ⌜ length (now row) ≡ 24 ⌝ }
+    ensures { λ r. ⌜ now (a .exit) ≡ paste (now (a .entry)) at (now (row .entry)) 24 ⌝ }
+{
+    let mut j = 0;
+    while j < 24 {
+        a[at + j] = row[j];
+        j += 1;
     }
 }

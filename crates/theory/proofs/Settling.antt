@@ -170,7 +170,7 @@ run-ended {I} v (suc f) x made (suc b) w h e =
     }
 
 -- a run that starts with no mover makes no move
-run-still : (I : Instance) (f : ℕ) (x : Assignment) (made : ℕ) → settleBy I f x made 0 ≡ record { assignment = x; moves = made }
+pub run-still : (I : Instance) (f : ℕ) (x : Assignment) (made : ℕ) → settleBy I f x made 0 ≡ record { assignment = x; moves = made }
 unfolding settleBy
 run-still I zero x made = refl
 run-still I (suc f) x made = refl

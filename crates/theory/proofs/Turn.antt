@@ -118,9 +118,9 @@ module _ (I : Instance) (a : ℕ) (s : State) (v : Shape I s) where
   unfolding deed nextOff pushOr lowestOn
   machine-low i i0 t e =
       let d : machineDeed I a s i
-          ≡ liftOver (leastTo (n I) (λ b. machineArc s i b) (λ b. at (s .jobHeights) b)) (at (s .machineHeights) i)
-          (at (s .jobHeights) (leastTo (n I) (λ b. machineArc s i b) (λ b. at (s .jobHeights) b)))
-          = deed-able i t ∙ (rw e) in
+      ≡ liftOver (leastTo (n I) (λ b. machineArc s i b) (λ b. at (s .jobHeights) b)) (at (s .machineHeights) i)
+      (at (s .jobHeights) (leastTo (n I) (λ b. machineArc s i b) (λ b. at (s .jobHeights) b)))
+      = deed-able i t ∙ (rw e) in
       lifts-low _ _ _ (ap can (sym d) ∙ able-can I a s v i i0 ∙ t)
 
   pub machine-lifts : (i : ℕ) → 0 < i → able I a s i ≡ true → nextOff I s i ≡ 0 → machineDeed I a s i ≡ lift (suc (lowestOn I s i))

@@ -76,7 +76,7 @@ taker-small c =
       arith,
       v .turn .tracks .loads (suc (c .least-for .result .machine - 1)) (omega arith) (omega (arith, f, v .setup .reads .machines)),
       load-small (inst (start c)) (take (n (inst (start c))) (start c .args .places .now)) (suc (c .least-for .result .machine - 1))
-      (omega (arith, v .setup .reads .jobs, v .setup .reads .most)) (v .setup .reads .short),
+          (omega (arith, v .setup .reads .jobs, v .setup .reads .most)) (v .setup .reads .short),
     )
 
 -- ---- after the hand-over
@@ -175,11 +175,11 @@ same-length-3 c = search needs
 returns : tie.Need-returns
 returns c = (
   λ I v.
-    rw (c .before .before .before .before .before .before .before .before .hand .ensures .0, c .before .before .before .before .before .before .before .before .hand .ensures .1 .0, c .before .before .before .before .before .before .before .before .hand .ensures .1 .1 .0)
-    (given (c .before .before .before .before .before .before .before .before .before .before .before .before .before .before .before .before .before .before .before .before .before .before .before .before .before .before .before .before .args .machines .now) (c .before .before .before .before .before .before .before .before .before .before .before .before .before .before .before .before .before .before .before .before .before .before .before .before .before .before .before .before .args .jobs .now) (c .before .before .before .before .before .before .before .before .before .before .before .before .before .before .before .before .before .before .before .before .before .before .before .before .before .before .before .before .args .places .now) (c .before .before .before .before .before .before .before .before .before .before .before .before .before .before .before .before .before .before .before .before .before .before .before .before .before .before .before .before .args .loads .now) (c .before .before .before .before .before .before .before .before .before .before .before .before .before .before .before .before .before .before .before .before .before .before .before .before .before .before .before .before .args .levels .now) (c .before .before .before .before .before .before .before .before .before .before .before .before .before .before .before .before .before .before .before .before .before .before .before .before .before .before .before .before .args .lifts) (c .before .before .before .before .before .before .before .before .before .before .before .before .before .before .before .before .before .before .before .before .before .before .before .before .before .before .before .before .args .pushes) v
-    (c .before .before .before .before .before .before .before .before .before .before .before .before .before .before .before .least-for .result .machine) (c .before .before .before .before .before .before .before .before .before .before .before .before .before .before .before .least-for .result .height) (c .before .before .before .before .before .before .before .before .hand .result) (c .before .before .before .before .before .before .before .before .before .before .before .before .before .before .before .before .before .before .before .wide .result) (c .stays .result)
-    (lowest (c .before .before .before .before .before .before .before .before .before .before .before .before .before .before .before)) (c .before .before .before .before .before .before .before .before .before .before .before .before .before .before .before .before .before .before .before .wide .ensures) (c .before .before .before .before .before .before .before .before .hand .ensures .1 .1 .1)
-    (rw (c .before .before .before .before .before .before .before .before .hand .ensures .1 .1 .0) at (c .stays .ensures))),
+      rw (c .before .before .before .before .before .before .before .before .hand .ensures .0, c .before .before .before .before .before .before .before .before .hand .ensures .1 .0, c .before .before .before .before .before .before .before .before .hand .ensures .1 .1 .0)
+      (given (c .before .before .before .before .before .before .before .before .before .before .before .before .before .before .before .before .before .before .before .before .before .before .before .before .before .before .before .before .args .machines .now) (c .before .before .before .before .before .before .before .before .before .before .before .before .before .before .before .before .before .before .before .before .before .before .before .before .before .before .before .before .args .jobs .now) (c .before .before .before .before .before .before .before .before .before .before .before .before .before .before .before .before .before .before .before .before .before .before .before .before .before .before .before .before .args .places .now) (c .before .before .before .before .before .before .before .before .before .before .before .before .before .before .before .before .before .before .before .before .before .before .before .before .before .before .before .before .args .loads .now) (c .before .before .before .before .before .before .before .before .before .before .before .before .before .before .before .before .before .before .before .before .before .before .before .before .before .before .before .before .args .levels .now) (c .before .before .before .before .before .before .before .before .before .before .before .before .before .before .before .before .before .before .before .before .before .before .before .before .before .before .before .before .args .lifts) (c .before .before .before .before .before .before .before .before .before .before .before .before .before .before .before .before .before .before .before .before .before .before .before .before .before .before .before .before .args .pushes) v
+      (c .before .before .before .before .before .before .before .before .before .before .before .before .before .before .before .least-for .result .machine) (c .before .before .before .before .before .before .before .before .before .before .before .before .before .before .before .least-for .result .height) (c .before .before .before .before .before .before .before .before .hand .result) (c .before .before .before .before .before .before .before .before .before .before .before .before .before .before .before .before .before .before .before .wide .result) (c .stays .result)
+      (lowest (c .before .before .before .before .before .before .before .before .before .before .before .before .before .before .before)) (c .before .before .before .before .before .before .before .before .before .before .before .before .before .before .before .before .before .before .before .wide .ensures) (c .before .before .before .before .before .before .before .before .hand .ensures .1 .1 .1)
+      (rw (c .before .before .before .before .before .before .before .before .hand .ensures .1 .1 .0) at (c .stays .ensures))),
   (refl, loads-long (c .before .before .before .before .before .before .before .before)),
 )
 

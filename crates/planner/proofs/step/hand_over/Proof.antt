@@ -101,7 +101,7 @@ give-requires c κs = (
   (
     inst (c .before .before .before .before .before .before .before .before .before .before .before .before .before .before .before .before),
     giving (known (c .before .before .before .before .before .before .before .before .before .before .before .before .before .before .before .before)) (at-head (c .before .before .before .before)) (c .before .before .before .before .before .before .before .loop .inv .5 (inst (c .before .before .before .before .before .before .before .before .before .before .before .before .before .before .before .before)) (known (c .before .before .before .before .before .before .before .before .before .before .before .before .before .before .before .before))) (c .before .before .before .before .next-off .result) (c .before .before .before .before .next-off .ensures)
-    (omega (arith, c .before .before .before .if1 .left)) (loads-wide (c .before .before .before .before)),
+        (omega (arith, c .before .before .before .if1 .left)) (loads-wide (c .before .before .before .before)),
   ),
   (
     (c .before .before .before .before .before .before .before .before .before .before .before .before .before .before .before .before) .pre .1 .0,
@@ -124,8 +124,8 @@ same-length-6 c = search needs
 returns-2 : tie.Need-returns-2 Inv-loop μ-loop
 returns-2 c = (
   λ I v. went-stopped v (at-head (c .before .before .before .before .before .before .before .before .before .before .before .before .before)) (c .before .before .before .before .before .before .before .before .before .before .before .before .before .before .before .before .loop .inv .5 I v)
-    (c .before .before .before .before .before .before .before .before .give .ensures .0 I
-    (giving v (at-head (c .before .before .before .before .before .before .before .before .before .before .before .before .before)) (c .before .before .before .before .before .before .before .before .before .before .before .before .before .before .before .before .loop .inv .5 I v) (c .before .before .before .before .before .before .before .before .before .before .before .before .before .next-off .result) (c .before .before .before .before .before .before .before .before .before .before .before .before .before .next-off .ensures) (omega (arith, c .before .before .before .before .before .before .before .before .before .before .before .before .if1 .left)) (loads-wide (c .before .before .before .before .before .before .before .before .before .before .before .before .before)))),
+      (c .before .before .before .before .before .before .before .before .give .ensures .0 I
+      (giving v (at-head (c .before .before .before .before .before .before .before .before .before .before .before .before .before)) (c .before .before .before .before .before .before .before .before .before .before .before .before .before .before .before .before .loop .inv .5 I v) (c .before .before .before .before .before .before .before .before .before .before .before .before .before .next-off .result) (c .before .before .before .before .before .before .before .before .before .before .before .before .before .next-off .ensures) (omega (arith, c .before .before .before .before .before .before .before .before .before .before .before .before .if1 .left)) (loads-wide (c .before .before .before .before .before .before .before .before .before .before .before .before .before)))),
   λ x. omega (arith, c .before .before .before .before .before .before .before .before .before .before .before .before .before .before .before .before .loop .inv .4, c .before .before .before .before .before .before .before .before .give .ensures .1 .0),
 )
 
@@ -140,8 +140,8 @@ loop-again c = (
   c .before .before .before .before .before .before .before .before .give .ensures .1 .1 ∙ c .before .before .before .before .before .before .before .before .before .before .before .before .before .before .before .before .loop .inv .3,
   omega (arith, c .before .before .before .before .before .before .before .before .before .before .before .before .before .before .before .before .loop .inv .4, c .before .before .before .before .before .before .before .before .give .ensures .1 .0),
   λ I v. along-on v (at-head (c .before .before .before .before .before .before .before .before .before .before .before .before .before)) (c .before .before .before .before .before .before .before .before .before .before .before .before .before .before .before .before .loop .inv .5 I v)
-    (c .before .before .before .before .before .before .before .before .give .ensures .0 I
-    (giving v (at-head (c .before .before .before .before .before .before .before .before .before .before .before .before .before)) (c .before .before .before .before .before .before .before .before .before .before .before .before .before .before .before .before .loop .inv .5 I v) (c .before .before .before .before .before .before .before .before .before .before .before .before .before .next-off .result) (c .before .before .before .before .before .before .before .before .before .before .before .before .before .next-off .ensures) (omega (arith, c .before .before .before .before .before .before .before .before .before .before .before .before .if1 .left)) (loads-wide (c .before .before .before .before .before .before .before .before .before .before .before .before .before)))) (not-false (c .before .before .before .before .before .before .before .before .give .result .stays) (c .if2 .left)) _ (omega (arith, c .before .before .before .before .before .before .before .before .before .before .before .before .if1 .left)) refl,
+      (c .before .before .before .before .before .before .before .before .give .ensures .0 I
+      (giving v (at-head (c .before .before .before .before .before .before .before .before .before .before .before .before .before)) (c .before .before .before .before .before .before .before .before .before .before .before .before .before .before .before .before .loop .inv .5 I v) (c .before .before .before .before .before .before .before .before .before .before .before .before .before .next-off .result) (c .before .before .before .before .before .before .before .before .before .before .before .before .before .next-off .ensures) (omega (arith, c .before .before .before .before .before .before .before .before .before .before .before .before .if1 .left)) (loads-wide (c .before .before .before .before .before .before .before .before .before .before .before .before .before)))) (not-false (c .before .before .before .before .before .before .before .before .give .result .stays) (c .if2 .left)) _ (omega (arith, c .before .before .before .before .before .before .before .before .before .before .before .before .if1 .left)) refl,
 )
 
 pub hand-over-spec : {M : Type 1} → statement M

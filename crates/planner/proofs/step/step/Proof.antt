@@ -227,7 +227,7 @@ hand-over-requires c κs = (
 returns-3 : tie.Need-returns-3
 returns-3 c = (
   λ I v. stopped v (some-light (c .before .before .before .before .before .before .before .before .before .before .before)) (c .before .before .before .before .before .before .before .before .before .before .before .first-able .result) (c .before .before .before .before .before .before .before .before .before .before .before .first-able .ensures) (omega (arith, c .before .before .before .before .before .before .before .before .before .before .if2 .left))
-    (c .before .before .before .before .hand-over .ensures .0 I (passing v (some-light (c .before .before .before .before .before .before .before .before .before .before .before)) (c .before .before .before .before .before .before .before .before .before .before .before .first-able .result) (c .before .before .before .before .before .before .before .before .before .before .before .first-able .ensures) (omega (arith, c .before .before .before .before .before .before .before .before .before .before .if2 .left)) (loads24 (c .before .before .before .before .before .before .before .before .before .before .before .before .before .before .before .before .before .before .before .before .before .before .before .before)))) refl,
+      (c .before .before .before .before .hand-over .ensures .0 I (passing v (some-light (c .before .before .before .before .before .before .before .before .before .before .before)) (c .before .before .before .before .before .before .before .before .before .before .before .first-able .result) (c .before .before .before .before .before .before .before .before .before .before .before .first-able .ensures) (omega (arith, c .before .before .before .before .before .before .before .before .before .before .if2 .left)) (loads24 (c .before .before .before .before .before .before .before .before .before .before .before .before .before .before .before .before .before .before .before .before .before .before .before .before)))) refl,
   λ x. omega (arith, c .before .before .before .before .hand-over .ensures .1 (c .if3 .taken), counted (c .before .before .before .before)),
 )
 
@@ -283,10 +283,10 @@ add-t61 c = omega (arith, small (c .before .before .before .before .before .befo
 returns-4 : tie.Need-returns-4
 returns-4 c = (
   λ I v. raised v (some-light (c .before .before .before .before .before .before .before .before .before .before .before .before .before .before .before .before .before .before)) (giver (c .before .before .before .before .before .before .before .before .before .before .before)) (c .before .before .before .before .before .before .before .before .before .before .before .before .before .before .before .before .before .before .first-able .ensures) (giver-some (c .before .before .before .before .before .before .before .before .before .before .before)) (went (c .before .before .before .before .before .before .before .before .before .before .before) I v) (ended (c .before .before .before .before)) (lowest (c .before .before .before .before)) (low-is (c .before .before .before .before))
-    (c .before .before .lift-level .last .0)
-    (subst
-    (λ (r : ℕ). Lifted (turned (c .before .before .before .before .before .before .before .before .before .before .before) .levels) (c .before .before .lift-level .last .0) r (getD (turned (c .before .before .before .before .before .before .before .before .before .before .before) .machines) (giver (c .before .before .before .before .before .before .before .before .before .before .before) - 1) 0) (lowest (c .before .before .before .before) + 1))
-    (suc-pred (giver (c .before .before .before .before .before .before .before .before .before .before .before)) (giver-some (c .before .before .before .before .before .before .before .before .before .before .before))) (c .before .before .lift-level .ensures)),
+      (c .before .before .lift-level .last .0)
+      (subst
+      (λ (r : ℕ). Lifted (turned (c .before .before .before .before .before .before .before .before .before .before .before) .levels) (c .before .before .lift-level .last .0) r (getD (turned (c .before .before .before .before .before .before .before .before .before .before .before) .machines) (giver (c .before .before .before .before .before .before .before .before .before .before .before) - 1) 0) (lowest (c .before .before .before .before) + 1))
+      (suc-pred (giver (c .before .before .before .before .before .before .before .before .before .before .before)) (giver-some (c .before .before .before .before .before .before .before .before .before .before .before))) (c .before .before .lift-level .ensures)),
   λ x. omega (arith, counted (c .before .before .before .before .before .before .before .before .before .before .before)),
 )
 

@@ -1,0 +1,109 @@
+-- Who would finish earlier elsewhere, by a cap on the other machine's load; and one more turn of the searches for the least and the greatest.
+-- Assumes nothing.
+use Prim.Native.Nat.{ℕ, zero, suc, _+_, _-_, _≤_, _<_}
+use mathlib.Core.Path.{_≡_, refl, sym, ap, _∙_}
+use mathlib.Core.Bool.{Bool, true, false, not}
+use mathlib.Core.List.{List}
+use native.Mathlib.Nat.{le-refl, le-step}
+use native.Mathlib.Omega.{arith}
+use lib.Dec.{ltb}
+use borrow.Author.Tests.{ltb-true, ltb-false, lt-ltb, le-ltb, ne-eqb}
+use Rattle.rules.specs.Fold.{_and_, at, anyTo, lesser, greater, greatestTo}
+use Rattle.theory.proofs.Logic.{byTest}
+use Rattle.theory.proofs.View.{Greatest, greatest}
+use Rattle.planner.specs.Sets.{has}
+use Rattle.planner.specs.Settling.{other, gainsAt, gains}
+use Rattle.planner.proofs.Going.{any-ext}
+use Rattle.planner.proofs.Search.{and-no-left, and-no-right, any-miss}
+
+pub and-true : (a : Bool) → a and true ≡ a
+unfolding _and_
+and-true true = refl
+and-true false = refl
+
+only : (a : Bool) → true and a ≡ (a and not false) and true
+unfolding _and_
+only true = refl
+only false = refl
+
+module _ (loads : List ℕ) (mask place w : ℕ) where
+  -- below the cap the machine is another one than the job's own
+  below-gains : w < at loads place → (i : ℕ) → (ltb (at loads i) (at loads place - w) and has mask i) ≡ gainsAt loads mask place w i
+  unfolding gainsAt other
+  below-gains h i =
+      byTest (ltb (at loads i) (at loads place - w))
+      (λ t.
+      let l = ltb-true (at loads i) (at loads place - w) t in
+      let ne : i ≡ place → ⊥ = λ e. let s = ap (at loads) e in omega arith in
+      rw (t, lt-ltb (at loads i + w) (at loads place) (omega arith), ne-eqb i place ne) (only (has mask i)))
+      (λ t.
+      let l = ltb-false (at loads i) (at loads place - w) t in
+      and-no-left _ _ t ∙ sym (and-no-right _ _ (le-ltb (at loads i + w) (at loads place) (omega arith))))
+
+  pub gains-below : (m : ℕ) → w < at loads place → anyTo m (λ i. ltb (at loads i) (at loads place - w) and has mask i) ≡ gains loads mask place w m
+  unfolding gains
+  gains-below m h = any-ext m _ _ (λ i l u. below-gains h i)
+
+  pub gains-none : (m : ℕ) → ((i : ℕ) → 0 < i → i ≤ m → at loads place ≤ at loads i + w) → gains loads mask place w m ≡ false
+  unfolding gains gainsAt
+  gains-none m h =
+      any-miss m (λ i. gainsAt loads mask place w i)
+      (λ i l u. and-no-right (other mask place i) _ (le-ltb (at loads i + w) (at loads place) (h i l u)))
+
+-- ---- one more turn
+
+module _ (f : ℕ → ℕ) (a k : ℕ) where
+  pub lesser-off : lesser f a false k ≡ a
+  unfolding lesser
+  lesser-off = refl
+
+  pub greater-off : greater f a false k ≡ a
+  unfolding greater
+  greater-off = refl
+
+pub lesser-new : (f : ℕ → ℕ) (a k : ℕ) → a ≡ 0 → lesser f a true k ≡ k
+unfolding lesser
+lesser-new f zero k e = refl
+lesser-new f (suc a) k e = absurd (omega arith)
+
+pub lesser-less : (f : ℕ → ℕ) (a k : ℕ) → f k < f a → lesser f a true k ≡ k
+unfolding lesser
+lesser-less f zero k h = refl
+lesser-less f (suc a) k h = rw (lt-ltb (f k) (f (suc a)) h)
+
+pub lesser-stay : (f : ℕ → ℕ) (a k : ℕ) → (a ≡ 0 → ⊥) → f a ≤ f k → lesser f a true k ≡ a
+unfolding lesser
+lesser-stay f zero k n h = absurd (n refl)
+lesser-stay f (suc a) k n h = rw (le-ltb (f k) (f (suc a)) h)
+
+pub greater-new : (f : ℕ → ℕ) (a k : ℕ) → (0 < a → f a < f k) → greater f a true k ≡ k
+unfolding greater
+greater-new f zero k h = refl
+greater-new f (suc a) k h = rw (lt-ltb (f (suc a)) (f k) (h (omega arith)))
+
+pub greater-stay : (f : ℕ → ℕ) (a : ℕ) (t : Bool) (k : ℕ) → 0 < a → f k ≤ f a → greater f a t k ≡ a
+unfolding greater
+greater-stay f a false k l h = refl
+greater-stay f zero true k l h = absurd (omega arith)
+greater-stay f (suc a) true k l h = rw (le-ltb (f (suc a)) (f k) h)
+
+pub greatest-le : (k : ℕ) (p : ℕ → Bool) (f : ℕ → ℕ) → greatestTo k p f ≤ k
+greatest-le k p f = from (greatest k p f)
+  where
+    from : {r : ℕ} → Greatest k p f r → r ≤ k
+    from (Greatest.nowhere z) = omega arith
+    from (Greatest.found j l e h) = l
+
+greater-agree : (f g : ℕ → ℕ) (r : ℕ) (t : Bool) (k : ℕ) → (0 < r → f r ≡ g r) → f k ≡ g k → greater f r t k ≡ greater g r t k
+unfolding greater
+greater-agree f g r false k h e = refl
+greater-agree f g zero true k h e = refl
+greater-agree f g (suc r) true k h e = rw (h (omega arith), e)
+
+pub greatest-agree : (k : ℕ) (p q : ℕ → Bool) (f g : ℕ → ℕ) → ((i : ℕ) → 0 < i → i ≤ k → p i ≡ q i) → ((i : ℕ) → 0 < i → i ≤ k → f i ≡ g i)
+    → greatestTo k p f ≡ greatestTo k q g
+unfolding greatestTo
+greatest-agree zero p q f g h e = refl
+greatest-agree (suc k) p q f g h e =
+    rw (h (suc k) (omega arith) (le-refl (suc k)), ← greatest-agree k p q f g (λ i l u. h i l (omega arith)) (λ i l u. e i l (omega arith)))
+    (greater-agree f g (greatestTo k p f) (q (suc k)) (suc k) (λ i0. e _ i0 (le-step (greatest-le k p f))) (e (suc k) (omega arith) (le-refl (suc k))))

@@ -1,0 +1,71 @@
+-- What the arrays say of who improves, who moves and where to is what the rules say.
+-- Assumes nothing.
+use Prim.Native.Nat.{ℕ, suc, _≤_, _<_}
+use mathlib.Core.Path.{_≡_, sym, ap, _∙_}
+use mathlib.Core.List.{List}
+use native.Mathlib.Omega.{arith}
+use lib.ListN.{length, take, getD}
+use Rattle.rules.specs.Fold.{at, anyTo, firstTo, leastTo, greatestTo}
+use Rattle.rules.specs.Instance.{Instance, minutesOf}
+use Rattle.rules.specs.Load.{load, elsewhere, improvesAt, improves}
+use Rattle.rules.specs.Settle.{mover, target}
+use Rattle.theory.proofs.Valid.{on-machine}
+use Rattle.theory.proofs.Turn.{first-ext}
+use Rattle.planner.specs.Reads.{Reads}
+use Rattle.planner.specs.Settling.{other, gainsAt, gains, Placing, Known}
+use Rattle.planner.proofs.Take.{at-take, take-long}
+use Rattle.planner.proofs.Raising.{least-agree}
+use Rattle.planner.proofs.Going.{any-ext}
+use Rattle.planner.proofs.Gains.{greatest-agree}
+
+module _ {I : Instance} {m c : ℕ} {lengths sets places loads : List ℕ} (r : Reads I m c lengths sets) (p : Placing I m c places loads) where
+  -- a job's place is a machine
+  pub place-in : (b : ℕ) → 0 < b → b ≤ c → (0 < at places b) × (at places b ≤ m)
+  place-in b l u =
+      let z = on-machine (r .valid) (p .permitted) b l (omega (arith, r .jobs)) in
+      let e = at-take c places b u in
+      (omega (arith, z .0, e), omega (arith, z .1, e, r .machines))
+
+  other-is : (b i : ℕ) → 0 < b → b ≤ c → 0 < i → i ≤ m → other (at sets b) (at places b) i ≡ elsewhere I (take c places) b i
+  unfolding other elsewhere
+  other-is b i bl bu il iu = rw (r .masks b i bl bu il (omega (arith, r .few)), at-take c places b bu)
+
+  gains-at-is : (b i : ℕ) → 0 < b → b ≤ c → 0 < i → i ≤ m
+      → gainsAt loads (at sets b) (at places b) (at lengths b) i ≡ improvesAt I (take c places) b i
+  unfolding gainsAt improvesAt
+  gains-at-is b i bl bu il iu =
+      let z = place-in b bl bu in
+      rw (other-is b i bl bu il iu, p .each i il iu, r .minutes b bl bu, p .each (at places b) (z .0) (z .1), at-take c places b bu)
+
+  pub gains-is : (b : ℕ) → 0 < b → b ≤ c → gains loads (at sets b) (at places b) (at lengths b) m ≡ improves I (take c places) b
+  unfolding gains improves
+  gains-is b l u =
+      any-ext m _ _ (λ i il iu. gains-at-is b i l u il iu)
+      ∙ ap (λ (k : ℕ). anyTo k (λ i. improvesAt I (take c places) b i)) (sym (r .machines))
+
+  pub first-is : firstTo c (λ b. gains loads (at sets b) (at places b) (at lengths b) m) ≡ firstTo c (λ b. improves I (take c places) b)
+  first-is = first-ext c _ _ gains-is
+
+  pub mover-is : greatestTo c (λ b. gains loads (at sets b) (at places b) (at lengths b) m) (λ b. at lengths b) ≡ mover I (take c places)
+  unfolding mover
+  mover-is =
+      greatest-agree c _ _ _ _ gains-is (r .minutes)
+      ∙ ap (λ (k : ℕ). greatestTo k (λ b. improves I (take c places) b) (λ b. minutesOf I b)) (sym (r .jobs))
+
+  pub target-is : (b : ℕ) → 0 < b → b ≤ c → leastTo m (λ i. other (at sets b) (at places b) i) (λ i. at loads i) ≡ target I (take c places) b
+  unfolding target
+  target-is b l u =
+      least-agree m _ _ _ _ (λ i il iu. other-is b i l u il iu) (p .each)
+      ∙ ap (λ (k : ℕ). leastTo k (λ i. elsewhere I (take c places) b i) (λ i. load I (take c places) i)) (sym (r .machines))
+
+  pub places-long : c ≤ length places
+  places-long = take-long c places (omega (arith, p .permitted .size, r .jobs))
+
+module _ {m c : ℕ} {lengths sets places loads : List ℕ} (k : Known m c lengths sets places loads) where
+  pub known-long : c ≤ length places
+  known-long = places-long (k .said .reads) (k .placing)
+
+  pub known-place : (b : ℕ) → b < c → (0 < getD places b 0) × (getD places b 0 ≤ length loads)
+  known-place b u =
+      let z = place-in (k .said .reads) (k .placing) (suc b) (omega arith) u in
+      (z .0, omega (arith, z .1, k .placing .long))

@@ -1,0 +1,54 @@
+-- Review over arrays: loads that were added up are the rules', and so are their list and the greatest of them.
+-- Assumes nothing.
+use Prim.Native.Nat.{ℕ, zero, suc, _≤_, _<_}
+use mathlib.Core.Path.{_≡_, refl, sym, ap, _∙_}
+use mathlib.Core.List.{List}
+use native.Mathlib.Nat.{le-refl}
+use native.Mathlib.Omega.{arith}
+use lib.ListN.{length, take}
+use lib.Seq.{take-suc}
+use lib.Dec.{eqb}
+use Rattle.rules.specs.Fold.{pick, at, sumTo, maxTo, firstTo, listTo}
+use Rattle.rules.specs.Instance.{Instance, minutesOf}
+use Rattle.rules.specs.Load.{load, makespan, improves, review}
+use Rattle.theory.proofs.Valid.{Permitted}
+use Rattle.theory.proofs.Fold.{sumTo-ext}
+use Rattle.planner.specs.Reads.{Reads}
+use Rattle.planner.specs.Settling.{Placing, ReviewIs}
+use Rattle.planner.proofs.Take.{at-take}
+
+-- a list's front part, by its entries
+pub take-list : (k : ℕ) (l : List ℕ) (f : ℕ → ℕ) → k ≤ length l → ((i : ℕ) → 0 < i → i ≤ k → at l i ≡ f i) → take k l ≡ listTo k f
+unfolding listTo
+take-list zero l f u h = refl
+take-list (suc k) l f u h =
+    rw (take-suc l k 0, take-list k l f (omega arith) (λ i l u. h i l (omega arith)), h (suc k) (omega arith) (le-refl (suc k)))
+
+pub max-agree : (k : ℕ) (f g : ℕ → ℕ) → ((i : ℕ) → 0 < i → i ≤ k → f i ≡ g i) → maxTo k f ≡ maxTo k g
+unfolding maxTo
+max-agree zero f g h = refl
+max-agree (suc k) f g h =
+    rw (max-agree k f g (λ i l u. h i l (omega arith)), h (suc k) (omega arith) (le-refl (suc k)))
+
+module _ {I : Instance} {m c : ℕ} {lengths sets : List ℕ} (r : Reads I m c lengths sets) where
+  -- loads that were added up over the places
+  pub added-placing : (places loads : List ℕ) → Permitted I (take c places) → m ≤ length loads
+      → ((i : ℕ) → 0 < i → i ≤ m → at loads i ≡ sumTo c (λ b. pick (eqb (at places b) i) (at lengths b) 0)) → Placing I m c places loads
+  unfolding load
+  added-placing places loads w u h = record {
+    permitted = w;
+    long = u;
+    each = λ i l v.
+        h i l v
+        ∙ sumTo-ext c _ _ (λ b bl bu. rw (at-take c places b bu, r .minutes b bl bu))
+        ∙ ap (λ (k : ℕ). sumTo k (λ b. pick (eqb (at (take c places) b) i) (minutesOf I b) 0)) (sym (r .jobs));
+  }
+
+  pub review-is : {places loads : List ℕ} (greatest lowest : ℕ) → Placing I m c places loads → greatest ≡ maxTo m (λ i. at loads i)
+      → lowest ≡ firstTo c (λ b. improves I (take c places) b) → ReviewIs I m c places loads greatest lowest
+  unfolding review makespan
+  review-is {places} {loads} greatest lowest p e f = record {
+    each = take-list m loads (λ i. load I (take c places) i) (p .long) (p .each) ∙ ap (λ (k : ℕ). listTo k (λ i. load I (take c places) i)) (sym (r .machines));
+    greatest = e ∙ max-agree m _ _ (p .each) ∙ ap (λ (k : ℕ). maxTo k (λ i. load I (take c places) i)) (sym (r .machines));
+    lowest = f ∙ ap (λ (k : ℕ). firstTo k (λ b. improves I (take c places) b)) (sym (r .jobs));
+  }

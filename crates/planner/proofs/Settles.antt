@@ -1,0 +1,119 @@
+-- Settling over arrays: what holds after some moves, what one more makes of it, and what stands at the end.
+-- Assumes nothing.
+use Prim.Native.Nat.{ℕ, zero, suc, _+_, _*_, _/_, _≤_, _<_}
+use mathlib.Core.Path.{_≡_, refl, sym, ap, _∙_}
+use mathlib.Core.List.{List}
+use native.Mathlib.Nat.{mul-le-mul}
+use native.Mathlib.Numerals.{add-one}
+use native.Mathlib.Omega.{arith}
+use lib.ListN.{take, drop}
+use lib.Dec.{eqb}
+use Rattle.rules.specs.Fold.{pick, at, sumTo}
+use Rattle.rules.specs.Instance.{Instance, Assignment, n, minutesOf}
+use Rattle.rules.specs.Load.{load}
+use Rattle.rules.specs.Settle.{mover, moved, squares, Settled, settleBy, settle}
+use Rattle.theory.proofs.Logic.{byTest}
+use Rattle.theory.proofs.Fold.{sumTo-ext, sumTo-bound}
+use Rattle.theory.proofs.Settling.{move-lowers, run-still}
+use Rattle.planner.specs.Reads.{Reads}
+use Rattle.planner.specs.Settling.{Placing, Moved, SettledTo}
+use Rattle.planner.proofs.Relocate.{due-improves}
+
+-- ---- the sum of squared loads
+
+module _ {I : Instance} {m c : ℕ} {lengths sets : List ℕ} (r : Reads I m c lengths sets) where
+  pub squares-are : {places loads : List ℕ} → Placing I m c places loads → sumTo m (λ i. at loads i * at loads i) ≡ squares I (take c places)
+  unfolding squares
+  squares-are {places} {loads} p =
+      sumTo-ext m _ _ (λ i l u. rw (p .each i l u))
+      ∙ ap (λ (k : ℕ). sumTo k (λ i. load I (take c places) i * load I (take c places) i)) (sym (r .machines))
+
+  load-small : (x : Assignment) (i : ℕ) → load I x i ≤ 288000
+  unfolding load
+  load-small x i =
+      omega (
+        arith,
+        sumTo-bound (n I) (λ b. pick (eqb (at x b) i) (minutesOf I b) 0) 1440
+            (λ b l u. byTest (eqb (at x b) i) (λ t. rw t (r .short b)) (λ t. rw t (omega arith))),
+        r .jobs,
+        r .most,
+      )
+
+  pub squares-small : (x : Assignment) → squares I x ≤ 24 * (288000 * 288000)
+  unfolding squares
+  squares-small x =
+      omega (
+        arith,
+        sumTo-bound (I .m) (λ i. load I x i * load I x i) (288000 * 288000) (λ i l u. mul-le-mul (load-small x i) (load-small x i)),
+        r .machines,
+        r .few,
+      )
+
+-- ---- the run
+
+-- after some moves from the places `old`: the places and loads now, and the job that moves next
+pub record Run (I : Instance) (m c : ℕ) (old new loads : List ℕ) (moves next : ℕ) : Type 0 where
+  pub placing : Placing I m c new loads
+  pub rest : drop c new ≡ drop c old
+  pub due : mover I (take c new) ≡ next
+  -- moves that are allowed and not made
+  pub left : ℕ
+  pub enough : squares I (take c new) ≤ 2 * left + 1
+  pub same : settleBy I left (take c new) moves next ≡ settle I (take c old)
+  pub paid : 2 * moves + squares I (take c new) ≤ squares I (take c old)
+
+pub run-start : {I : Instance} {m c : ℕ} {places loads : List ℕ} (next : ℕ) → Placing I m c places loads → next ≡ mover I (take c places)
+    → Run I m c places places loads 0 next
+unfolding settle
+run-start {I} {m} {c} {places} next p e = record {
+  placing = p;
+  rest = refl;
+  due = sym e;
+  left = squares I (take c places) / 2;
+  enough = omega arith;
+  same = ap (λ (b : ℕ). settleBy I (squares I (take c places) / 2) (take c places) 0 b) e;
+  paid = omega arith;
+}
+
+-- one move of the rules
+more : (I : Instance) (f : ℕ) (x : Assignment) (made b : ℕ) → squares I x ≤ 2 * f + 1 → 0 < b → squares I (moved I x b) + 2 ≤ squares I x
+    → (g : ℕ) × (squares I (moved I x b) ≤ 2 * g + 1) × (settleBy I f x made b ≡ settleBy I g (moved I x b) (suc made) (mover I (moved I x b)))
+unfolding settleBy
+more I zero x made b h l d = absurd (omega arith)
+more I (suc f) x made zero h l d = absurd (omega arith)
+more I (suc f) x made (suc b) h l d = (f, omega arith, refl)
+
+module _ {I : Instance} {m c : ℕ} {lengths sets : List ℕ} (r : Reads I m c lengths sets) where
+  pub moved-falls : {places loads new loads′ : List ℕ} {b : ℕ} → Placing I m c places loads → 0 < b → mover I (take c places) ≡ b
+      → Moved I m c places new loads′ b → squares I (take c new) + 2 ≤ squares I (take c places)
+  moved-falls {places} {b = b} p l e d =
+      rw (d .assignment) (move-lowers (r .valid) (p .permitted) b (due-improves I (take c places) b l e .1))
+
+  pub run-more : {old new loads new′ loads′ : List ℕ} {moves b : ℕ} (next : ℕ) → Run I m c old new loads moves b → 0 < b
+      → Moved I m c new new′ loads′ b → next ≡ mover I (take c new′) → Run I m c old new′ loads′ (moves + 1) next
+  run-more {old} {new} {new′ = new′} {moves = moves} {b = b} next k l d e =
+      let fall = moved-falls (k .placing) l (k .due) d in
+      let s = d .assignment in
+      let f : squares I (moved I (take c new) b) + 2 ≤ squares I (take c new) = rw s at fall in
+      let z = more I (k .left) (take c new) moves b (k .enough) l f in
+      record {
+        placing = d .placing;
+        rest = d .rest ∙ k .rest;
+        due = sym e;
+        left = z .0;
+        enough = rw s (z .1);
+        same = rw (add-one moves, e, s) (sym (z .2) ∙ k .same);
+        paid = omega (arith, k .paid, fall);
+      }
+
+pub run-end : {I : Instance} {m c : ℕ} {old new loads : List ℕ} {moves next : ℕ} → Run I m c old new loads moves next → next ≡ 0
+    → SettledTo I m c old new loads moves
+run-end {I} {c = c} {new = new} {moves = moves} k z =
+    let e : settle I (take c _) ≡ record { assignment = take c new; moves = moves }
+    = sym (k .same) ∙ ap (settleBy I (k .left) (take c new) moves) z ∙ run-still I (k .left) (take c new) moves in
+    record {
+      assignment = sym (ap (λ (s : Settled). s .assignment) e);
+      count = sym (ap (λ (s : Settled). s .moves) e);
+      placing = k .placing;
+      rest = k .rest;
+    }

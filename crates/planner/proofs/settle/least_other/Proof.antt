@@ -1,0 +1,72 @@
+-- The invariant: the machine so far is the least of those passed.
+-- Assumes nothing.
+use Prim.Native.Nat.{ℕ, suc, _≤_, _-_}
+use mathlib.Core.Path.{_≡_, refl, ap, _∙_}
+use mathlib.Core.Bool.{Bool}
+use native.Mathlib.Numerals.{add-one}
+use native.Mathlib.Omega.{arith}
+use Rattle.rules.specs.Fold.{at, lesser, leastTo}
+use Rattle.planner.specs.Settling.{other}
+use Rattle.planner.proofs.Raising.{least-le}
+use borrow.Author.Needs.{needs}
+use Rattle.planner.proofs.settle.least_other.Statement.{statement}
+use Rattle.planner.proofs.settle.least_other.Tie as tie
+
+abbrev Inv-loop : tie.InvT-loop
+Inv-loop loads mask place m found₀ i₀ found i = (i ≤ m) × (found ≡ leastTo i (λ j. other mask place j) (λ j. at loads j))
+
+abbrev μ-loop : tie.MeasureT-loop
+μ-loop loads mask place m found₀ i₀ found i = m - i
+
+loop-holds : tie.Need-loop-holds Inv-loop μ-loop
+unfolding leastTo
+loop-holds c = (omega arith, refl)
+
+is-other-requires : tie.Need-is-other-requires Inv-loop μ-loop
+is-other-requires c κs = omega arith
+
+lighter-requires : tie.Need-lighter-requires Inv-loop μ-loop
+lighter-requires c κs =
+    let at-loop = c .before .before in
+    (omega (arith, at-loop .loop .inv .1, least-le (at-loop .loop .i) (λ j. other (at-loop .before .before .args .mask) (at-loop .before .before .args .place) j) (λ j. at (at-loop .before .before .args .loads .now) j)), omega arith)
+
+add-i : tie.Need-add-i Inv-loop μ-loop
+add-i c = search needs
+
+loop-less : tie.Need-loop-less Inv-loop μ-loop
+loop-less c = search needs
+
+loop-again : tie.Need-loop-again Inv-loop μ-loop
+unfolding leastTo
+loop-again c =
+    let at-loop = c .before .before .before in
+    let i = at-loop .loop .i in
+    let a = at-loop .before .before .args in
+    let p : ℕ → Bool = λ j. other (a .mask) (a .place) j in
+    let f : ℕ → ℕ = λ k. at (a .loads .now) k in (
+      omega arith,
+      rw (add-one i)
+          (c .lighter .ensures
+          ∙ ap (λ (x : ℕ). lesser f x (c .before .is-other .result) (suc i)) (at-loop .loop .inv .1)
+          ∙ ap (λ (t : Bool). lesser f (leastTo i p f) t (suc i)) (c .before .is-other .ensures)),
+    )
+
+returns : tie.Need-returns Inv-loop μ-loop
+returns c =
+    let st = c .before .before .before in
+    let e : c .before .loop .i ≡ st .args .m = omega arith in
+    c .before .loop .inv .1 ∙ ap (λ (k : ℕ). leastTo k (λ j. other (st .args .mask) (st .args .place) j) (λ j. at (st .args .loads .now) j)) e
+
+pub least-other-spec : {M : Type 1} → statement M
+least-other-spec =
+    tie.close
+    (tie.spec
+    Inv-loop
+    μ-loop
+    loop-holds
+    is-other-requires
+    lighter-requires
+    add-i
+    loop-less
+    loop-again
+    returns)

@@ -1,0 +1,162 @@
+-- What each edit gives on a sound sheet, in its arrays; and that the sheet stays sound.
+-- Assumes nothing.
+use Prim.Native.Nat.{ℕ, _+_, _-_, _≤_, _<_}
+use mathlib.Core.Path.{_≡_, refl, sym, ap, _∙_}
+use mathlib.Core.Bool.{Bool, true, false}
+use mathlib.Core.List.{List, [], _∷_, _++_}
+use native.Mathlib.Omega.{arith}
+use lib.ListN.{length, getD}
+use lib.Dec.{leb, ltb}
+use borrow.Author.Tests.{lt-ltb, le-ltb}
+use Rattle.rules.specs.Fold.{_and_, mem}
+use Rattle.rules.specs.Sheet.{Book, Batch, size, batch, head, goodMinutes, goodList, sound}
+use Rattle.rules.specs.Edit.{Edit, add, withdraw, requalify, move, edit, edited, refused, kept, without, withBatches, withBatch}
+use Rattle.rules.specs.Edit as E
+use Rattle.theory.proofs.Sound.{edit-sound}
+use Rattle.sheet.specs.declared.Sheet.{Sheet}
+use Rattle.sheet.specs.declared.Edited.{Edited}
+use Rattle.sheet.specs.declared.Refusal.{Refusal}
+use Rattle.sheet.specs.declared.Refusal.the-variants.{Nothing, BadLength, BadList, BadPlace, NoBatch, SheetFull}
+use Rattle.sheet.specs.Represent.{padded, sheetOf, batchAt, bookOf, Sound, appended}
+use Rattle.sheet.specs.Answers.{editedAs, editOf}
+use Rattle.sheet.specs.Change.{removed, moved, requalified}
+use Rattle.sheet.proofs.Padded.{getD-zeros}
+use Rattle.sheet.proofs.Represent.{book-sheet, sheet-sound, append-law}
+use Rattle.sheet.proofs.Change.{onto, listing, remove-law, move-law, requalify-law}
+use Rattle.sheet.proofs.Held.{book-m, book-size, book-at, number-at, is-number, in-range, few-instruments, few-batches, narrow-book, good-long}
+
+abbrev pub answer : Refusal → Sheet → Edited
+answer r s = record { refusal = r; sheet = s }
+
+-- ---- a sound sheet stays sound
+
+kept-sound : (s : Sheet) → Sound s → (o : E.Edited) → ((j : Book) → o ≡ edited j → sound j ≡ true) →
+    Sound (editedAs s o .sheet)
+kept-sound s v (refused e) f = v
+kept-sound s v (edited j) f = sheet-sound j (f j refl)
+
+pub edit-keeps : (s : Sheet) (e : Edit) → Sound s → Sound (editOf s e .sheet)
+unfolding editOf
+edit-keeps s e v = kept-sound s v (edit (bookOf s) e) (λ j q. edit-sound (bookOf s) e j (v .book) q)
+
+-- and its book is the one that the edit gives
+pub edit-book : (s : Sheet) (e : Edit) (j : Book) → Sound s → edit (bookOf s) e ≡ edited j → bookOf (editOf s e .sheet) ≡ j
+unfolding editOf
+edit-book s e j v q = rw q (book-sheet j (edit-sound (bookOf s) e j (v .book) q))
+
+module _ (s : Sheet) (v : Sound s) where
+  -- ---- withdraw
+
+  pub withdraw-none : (b : ℕ) → leb 1 b and leb b (s .n) ≡ false → answer NoBatch s ≡ editOf s (withdraw b)
+  unfolding editOf edit
+  withdraw-none b e = rw (is-number s b ∙ e)
+
+  pub withdraw-done : (b : ℕ) (y : Sheet) → leb 1 b and leb b (s .n) ≡ true → y ≡ removed s (b - 1) →
+      answer Nothing y ≡ editOf s (withdraw b)
+  unfolding editOf edit
+  withdraw-done b y e u =
+      let r = in-range b (s .n) e in
+      let z = book-size s in
+      let q : removed s (b - 1) ≡ sheetOf (withBatches (bookOf s) (without (bookOf s .batches) (b - 1))) =
+      ap (λ (t : Sheet). removed t (b - 1)) (sym (v .arrays))
+      ∙ remove-law (bookOf s) (b - 1) (omega arith) (omega (arith, few-batches s v)) (narrow-book s v) in
+      rw (is-number s b ∙ e) (ap (answer Nothing) (u ∙ q))
+
+  -- ---- move
+
+  -- batch number b as the arrays have it
+  pub batch-is : (b : ℕ) → leb 1 b and leb b (s .n) ≡ true → batch (bookOf s) b ≡ batchAt s (b - 1)
+  batch-is b e =
+      let r = in-range b (s .n) e in
+      number-at (bookOf s) b (r .0) ∙ book-at s (b - 1) (omega arith)
+
+  pub move-none : (b i : ℕ) → leb 1 b and leb b (s .n) ≡ false → answer NoBatch s ≡ editOf s (move b i)
+  unfolding editOf edit
+  move-none b i e = rw (is-number s b ∙ e)
+
+  pub move-strange : (b i : ℕ) → leb 1 b and leb b (s .n) ≡ true → mem i (batchAt s (b - 1) .list) ≡ false →
+      answer BadPlace s ≡ editOf s (move b i)
+  unfolding editOf edit
+  move-strange b i e f = rw (is-number s b ∙ e, ap (λ (c : Batch). mem i (c .list)) (batch-is b e) ∙ f)
+
+  pub move-done : (b i : ℕ) → leb 1 b and leb b (s .n) ≡ true → mem i (batchAt s (b - 1) .list) ≡ true →
+      answer Nothing (moved s (b - 1) i) ≡ editOf s (move b i)
+  unfolding editOf edit
+  move-done b i e f =
+      let r = in-range b (s .n) e in
+      let z = book-size s in
+      let q : moved s (b - 1) i ≡ sheetOf (withBatch (bookOf s) b (onto (batch (bookOf s) b) i)) =
+      ap (λ (t : Sheet). moved t (b - 1) i) (sym (v .arrays))
+      ∙ move-law (bookOf s) (b - 1) i (omega arith)
+      ∙ ap (λ (c : Batch). sheetOf (withBatch (bookOf s) b (onto c i))) (sym (number-at (bookOf s) b (r .0))) in
+      rw (is-number s b ∙ e, ap (λ (c : Batch). mem i (c .list)) (batch-is b e) ∙ f) (ap (answer Nothing) q)
+
+  -- ---- requalify
+
+  good-book : (l : List ℕ) {t : Bool} → goodList (s .m) l ≡ t → goodList (bookOf s .m) l ≡ t
+  good-book l g = ap (λ (m : ℕ). goodList m l) (book-m s) ∙ g
+
+  pub requalify-none : (b : ℕ) (l : List ℕ) → leb 1 b and leb b (s .n) ≡ false → answer NoBatch s ≡ editOf s (requalify b l)
+  unfolding editOf edit
+  requalify-none b l e = rw (is-number s b ∙ e)
+
+  pub requalify-bad : (b : ℕ) (l : List ℕ) → leb 1 b and leb b (s .n) ≡ true → goodList (s .m) l ≡ false →
+      answer BadList s ≡ editOf s (requalify b l)
+  unfolding editOf edit
+  requalify-bad b l e g = rw (is-number s b ∙ e, good-book l g)
+
+  pub requalify-done : (b : ℕ) (l : List ℕ) (x : ℕ) (row : List ℕ) (y : Sheet) → leb 1 b and leb b (s .n) ≡ true →
+      goodList (s .m) l ≡ true →
+      x ≡ kept (getD (s .places) (b - 1) 0) l → row ≡ padded 24 l → y ≡ requalified s (b - 1) x (length l) row →
+      answer Nothing y ≡ editOf s (requalify b l)
+  unfolding editOf edit
+  requalify-done b l x row y e g f d u =
+      let r = in-range b (s .n) e in
+      let z = book-size s in
+      let p : x ≡ kept (batch (bookOf s) b .place) l = f ∙ ap (λ (c : Batch). kept (c .place) l) (sym (batch-is b e)) in
+      let q : requalified s (b - 1) (kept (batch (bookOf s) b .place) l) (length l) (padded 24 l)
+      ≡ sheetOf (withBatch (bookOf s) b (listing (batch (bookOf s) b) l (kept (batch (bookOf s) b .place) l))) =
+      ap (λ (t : Sheet). requalified t (b - 1) (kept (batch (bookOf s) b .place) l) (length l) (padded 24 l)) (sym (v .arrays))
+      ∙ requalify-law (bookOf s) (b - 1) (kept (batch (bookOf s) b .place) l) l (omega arith) (narrow-book s v)
+      (omega (arith, few-instruments s v, good-long (s .m) l g .1))
+      ∙ ap (λ (c : Batch). sheetOf (withBatch (bookOf s) b (listing c l (kept (batch (bookOf s) b .place) l))))
+      (sym (number-at (bookOf s) b (r .0))) in
+      rw (is-number s b ∙ e, good-book l g)
+      (ap (answer Nothing)
+      (u ∙ ap (λ (j : ℕ). requalified s (b - 1) j (length l) row) p
+      ∙ ap (λ (j : List ℕ). requalified s (b - 1) (kept (batch (bookOf s) b .place) l) (length l) j) d
+      ∙ q))
+
+  -- ---- add
+
+  room : s .n < 200 → ltb (size (bookOf s)) 200 ≡ true
+  room h = let z = book-size s in lt-ltb (size (bookOf s)) 200 (omega arith)
+
+  pub add-full : (t : ℕ) (l : List ℕ) → 200 ≤ s .n → answer SheetFull s ≡ editOf s (add t l)
+  unfolding editOf edit
+  add-full t l h = let z = book-size s in rw (le-ltb (size (bookOf s)) 200 (omega arith))
+
+  pub add-length : (t : ℕ) (l : List ℕ) → s .n < 200 → leb 1 t and leb t 1440 ≡ false →
+      answer BadLength s ≡ editOf s (add t l)
+  unfolding editOf edit goodMinutes
+  add-length t l h e = rw (room h, e)
+
+  pub add-bad : (t : ℕ) (l : List ℕ) → s .n < 200 → leb 1 t and leb t 1440 ≡ true → goodList (s .m) l ≡ false →
+      answer BadList s ≡ editOf s (add t l)
+  unfolding editOf edit goodMinutes
+  add-bad t l h e g = rw (room h, e, good-book l g)
+
+  pub add-done : (t : ℕ) (l row : List ℕ) (y : Sheet) → s .n < 200 → leb 1 t and leb t 1440 ≡ true →
+      goodList (s .m) l ≡ true →
+      row ≡ padded 24 l → y ≡ appended s t (getD row 0 0) (length l) row → answer Nothing y ≡ editOf s (add t l)
+  unfolding editOf edit goodMinutes
+  add-done t l row y h e g d u =
+      let z = book-size s in
+      let c : Batch = record { minutes = t; list = l; place = head l } in
+      let p : getD row 0 0 ≡ head l = ap (λ (r : List ℕ). getD r 0 0) d ∙ getD-zeros l (24 - length l) 0 in
+      let q : appended s t (head l) (length l) (padded 24 l) ≡ sheetOf (withBatches (bookOf s) (bookOf s .batches ++ (c ∷ []))) =
+      ap (λ (x : Sheet). appended x t (head l) (length l) (padded 24 l)) (sym (v .arrays))
+      ∙ append-law (bookOf s) c (omega arith) (narrow-book s v) (omega (arith, few-instruments s v, good-long (s .m) l g .1)) in
+      rw (room h, e, good-book l g)
+      (ap (answer Nothing)
+      (u ∙ ap (λ (j : ℕ). appended s t j (length l) row) p ∙ ap (λ (j : List ℕ). appended s t (head l) (length l) j) d ∙ q))

@@ -1,0 +1,119 @@
+-- What a sound sheet's arrays hold: the limits, and each batch of its book.
+-- Assumes nothing.
+use Prim.Native.Nat.{ℕ, zero, suc, _-_, _≤_, _<_}
+use mathlib.Core.Path.{_≡_, refl, sym, ap, _∙_}
+use mathlib.Core.Bool.{true}
+use mathlib.Core.List.{List, [], _∷_}
+use native.Mathlib.Omega.{arith}
+use lib.ListN.{length, getD, length-append, List·getD-append}
+use lib.Seq.{getD-at}
+use lib.Dec.{leb, ltb}
+use borrow.Author.Tests.{leb-true, ltb-true, ltb-false}
+use Rattle.rules.specs.Fold.{_and_, mem, every}
+use Rattle.rules.specs.Sheet.{Book, Batch, size, batch, isBatch, noBatchHere, goodInstruments, isInstrument, goodList, sound}
+use Rattle.theory.proofs.Logic.{byTest, and-left, and-right}
+use Rattle.theory.proofs.Member.{every-at}
+use Rattle.theory.proofs.Sound.{sound-is, good-batch, good-ranged}
+use Rattle.sheet.specs.declared.Sheet.{Sheet}
+use Rattle.sheet.specs.Represent.{sheetOf, batchAt, batchesTo, bookOf, Sound}
+use Rattle.sheet.proofs.Represent.{narrow, column, sound-narrow}
+
+-- ---- the book's parts
+
+pub book-m : (s : Sheet) → bookOf s .m ≡ s .m
+unfolding bookOf
+book-m s = refl
+
+batches-count : (s : Sheet) (n : ℕ) → length (batchesTo s n) ≡ n
+unfolding batchesTo
+batches-count s zero = refl
+batches-count s (suc n) = omega (arith, length-append (batchesTo s n) (batchAt s n ∷ []), batches-count s n)
+
+pub book-size : (s : Sheet) → size (bookOf s) ≡ s .n
+unfolding bookOf
+book-size s = batches-count s (s .n)
+
+batches-at : (s : Sheet) (n i : ℕ) → i < n → getD (batchesTo s n) i noBatchHere ≡ batchAt s i
+unfolding batchesTo
+batches-at s zero i h = absurd (omega arith)
+batches-at s (suc n) i h =
+    byTest (ltb i n)
+    (λ t. let g : i < n = ltb-true i n t in
+    List·getD-append (batchesTo s n) (batchAt s n ∷ []) noBatchHere i (omega (arith, batches-count s n)) ∙ batches-at s n i g)
+    (λ t. let g : i ≡ n = omega (arith, ltb-false i n t) in
+    rw g (getD-at (batchesTo s n) (batchAt s n) [] noBatchHere n (batches-count s n)))
+
+pub book-at : (s : Sheet) (i : ℕ) → i < s .n → getD (bookOf s .batches) i noBatchHere ≡ batchAt s i
+unfolding bookOf
+book-at s i h = batches-at s (s .n) i h
+
+pub number-at : (k : Book) (b : ℕ) → 0 < b → batch k b ≡ getD (k .batches) (b - 1) noBatchHere
+number-at k zero h = absurd (omega arith)
+number-at k (suc b) h = let e : b ≡ suc b - 1 = omega arith in ap (λ (i : ℕ). getD (k .batches) i noBatchHere) e
+
+-- a number in range, and what it says
+pub is-number : (s : Sheet) (b : ℕ) → isBatch (bookOf s) b ≡ leb 1 b and leb b (s .n)
+unfolding isBatch
+is-number s b = ap (λ (n : ℕ). leb 1 b and leb b n) (book-size s)
+
+pub in-range : (b n : ℕ) → leb 1 b and leb b n ≡ true → (0 < b) × (b ≤ n)
+in-range b n e = (leb-true _ _ (and-left _ _ e), leb-true _ _ (and-right (leb 1 b) _ e))
+
+counts-at : (k : Book) (i : ℕ) → getD (sheetOf k .counts) i 0 ≡ length (getD (k .batches) i noBatchHere .list)
+unfolding sheetOf
+counts-at k i = column (λ (c : Batch). length (c .list)) refl (k .batches) i
+
+-- ---- a good list
+
+pub good-long : (m : ℕ) (l : List ℕ) → goodList m l ≡ true → (0 < length l) × (length l ≤ m)
+unfolding goodList
+good-long m l e =
+    (leb-true _ _ (and-left _ _ e), leb-true _ _ (and-left _ _ (and-right (leb 1 (length l)) _ e)))
+
+pub good-entry : (m : ℕ) (l : List ℕ) (i : ℕ) → goodList m l ≡ true → i < length l → getD l i 0 ≤ m
+unfolding goodList isInstrument
+good-entry m l i e h =
+    let r = and-right (leb (length l) m) _ (and-right (leb 1 (length l)) _ e) in
+    leb-true _ _ (and-right (leb 1 (getD l i 0)) _ (every-at (isInstrument m) l 0 i (and-left _ _ r) h))
+
+-- ---- the limits
+
+module _ (s : Sheet) (v : Sound s) where
+  pub few-instruments : s .m ≤ 24
+  unfolding goodInstruments
+  few-instruments =
+      let g = sound-is (bookOf s) (v .book) .instruments in
+      let h : bookOf s .m ≤ 24 = leb-true _ _ (and-right (leb 1 (bookOf s .m)) _ g) in
+      omega (arith, book-m s)
+
+  pub few-batches : s .n ≤ 200
+  few-batches = omega (arith, book-size s, sound-is (bookOf s) (v .book) .room)
+
+  pub narrow-book : every narrow (bookOf s .batches) ≡ true
+  narrow-book = sound-narrow (bookOf s) (v .book)
+
+  pub short-list : (i : ℕ) → i < s .n → getD (s .counts) i 0 ≤ 24
+  short-list i h =
+      let bs = bookOf s .batches in
+      let l : length (getD bs i noBatchHere .list) ≤ 24 =
+      leb-true _ _ (every-at narrow bs noBatchHere i narrow-book (omega (arith, book-size s))) in
+      let e : getD (s .counts) i 0 ≡ length (getD bs i noBatchHere .list) =
+      ap (λ (t : Sheet). getD (t .counts) i 0) (sym (v .arrays)) ∙ counts-at (bookOf s) i in
+      omega arith
+
+  -- a batch's index
+  pub index : (b : ℕ) → leb 1 b and leb b (s .n) ≡ true → (0 < b) × (b - 1 < s .n) × (b - 1 < 200)
+  index b e = let r = in-range b (s .n) e in let f = few-batches in (r .0, omega arith, omega arith)
+
+  -- an instrument that batch number b lists
+  pub small-place : (b i : ℕ) → leb 1 b and leb b (s .n) ≡ true → mem i (batchAt s (b - 1) .list) ≡ true → i ≤ 24
+  small-place b i e h =
+      let r = index b e in
+      let q : batch (bookOf s) b ≡ batchAt s (b - 1) = number-at (bookOf s) b (r .0) ∙ book-at s (b - 1) (r .1) in
+      let g = good-batch (bookOf s) b (sound-is (bookOf s) (v .book)) (is-number s b ∙ e) in
+      let t = good-ranged (bookOf s .m) (batch (bookOf s) b .list) i (g .list) (ap (λ (c : Batch). mem i (c .list)) q ∙ h) in
+      omega (arith, few-instruments, book-m s, t .1)
+
+  -- a good list fits a row
+  pub row-fits : (l : List ℕ) → goodList (s .m) l ≡ true → (length l ≤ 24) × ((i : ℕ) → i < length l → getD l i 0 < 256)
+  row-fits l g = (omega (arith, few-instruments, good-long (s .m) l g .1), λ i h. omega (arith, few-instruments, good-entry (s .m) l i g h))

@@ -1,0 +1,15 @@
+pub mod Padded
+pub mod Represent
+pub mod Enter
+pub mod Scan
+pub mod Shift
+pub mod Change
+pub mod Held
+pub mod Edits
+pub mod Fields
+pub mod Lines
+pub mod Extent
+pub mod Longest
+pub mod Given
+pub mod Sofar
+pub mod Keeps

@@ -1,0 +1,203 @@
+-- Reading from a place in a sheet: fields, the LF, and who a list names.
+-- Assumes nothing.
+use Prim.Native.Nat.{ℕ, zero, suc, _+_, _-_, _≤_, _<_}
+use mathlib.Core.Path.{_≡_, refl, sym, ap, _∙_}
+use mathlib.Core.Bool.{Bool, true, false, not}
+use mathlib.Core.List.{List, [], _∷_, _++_}
+use native.Mathlib.Numerals.{add-one}
+use native.Mathlib.Omega.{arith}
+use lib.Dec.{leb, ltb, eqb}
+use lib.ListN.{length, getD, set, take, drop, replicate, drop-of-length-le, length-append, length-replicate, length-take, length-drop, length-set, take-append-drop}
+use lib.Seq.{drop-cons, drop-drop, drop-set-lt, length-take-le, take-all, take-suc-set}
+use borrow.Author.Tests.{ltb-false, eqb-true, le-leb, lt-leb, eq-eqb, ne-eqb}
+use Rattle.rules.specs.Fold.{pick, _and_, _or_, mem}
+use Rattle.rules.specs.Refusal.{malformed, badList}
+use Rattle.rules.specs.Sheet.{isInstrument}
+use Rattle.rules.specs.Field.{value, fault, field}
+use Rattle.rules.specs.Field as F
+use Rattle.rules.specs.Read.{Part, gives, refuses, andThen, orRefuse, numberAt, endOfLine, instrumentsAt, placeOr}
+use Rattle.theory.proofs.Logic.{byTest, conflict, and-mk, or-cases}
+use Rattle.sheet.specs.declared.read.Field.{Field}
+use Rattle.sheet.specs.declared.read.Field.the-variants.{Value, Fault}
+use Rattle.sheet.specs.declared.read.Placing.the-variants.{On, Unlisted}
+use Rattle.sheet.specs.Represent.{padded}
+use Rattle.sheet.specs.Lines.{codedField}
+
+-- ---- a number between two
+
+pub between : (a b x : ℕ) → a ≤ x → x ≤ b → leb a x and leb x b ≡ true
+between a b x l u = and-mk _ _ (le-leb a x l) (le-leb x b u)
+
+pub below : (a b x : ℕ) → x < a → leb a x and leb x b ≡ false
+unfolding _and_
+below a b x h = rw (lt-leb a x h)
+
+pub above : (a b x : ℕ) → a ≤ x → b < x → leb a x and leb x b ≡ false
+unfolding _and_
+above a b x l h = rw (le-leb a x l, lt-leb x b h)
+
+-- ---- the field at a place
+
+-- the part of a slice from a place to its end
+pub part-from : (s : List ℕ) (at : ℕ) → take (length s - at) (drop at s) ≡ drop at s
+part-from s at = take-all (length s - at) (drop at s) (simp length-drop (omega arith))
+
+coded-value : (f : F.Field) (v : ℕ) → Value v ≡ codedField f → f ≡ value v
+coded-value (value x) v e = let q : v ≡ x = cc in ap value (sym q)
+coded-value fault v e = absurd (let z : _≡_ {A = ℕ} 0 1 = cc in omega arith)
+
+coded-fault : (f : F.Field) → Fault ≡ codedField f → f ≡ fault
+coded-fault (value x) e = absurd (let z : _≡_ {A = ℕ} 0 1 = cc in omega arith)
+coded-fault fault e = refl
+
+-- a number is read only from six columns
+pub six : (r : List ℕ) (v : ℕ) → field r ≡ value v → 6 ≤ length r
+unfolding field
+six r v e =
+    byTest (ltb (length r) 6)
+    (λ t. absurd (let f : fault ≡ value v = rw t at e in let z : _≡_ {A = ℕ} 0 1 = cc in omega arith))
+    (λ t. ltb-false (length r) 6 t)
+
+-- what the field reader gave for the rest of s from at on
+module _ (s : List ℕ) (at : ℕ) (f : Field) (e : f ≡ codedField (field (take (length s - at) (drop at s)))) where
+  here : f ≡ codedField (field (drop at s))
+  here = e ∙ ap (λ (r : List ℕ). codedField (field r)) (part-from s at)
+
+  pub number-there : (v : ℕ) → f ≡ Value v → numberAt (drop at s) ≡ gives v (drop (at + 6) s)
+  unfolding numberAt
+  number-there v g =
+      rw (coded-value (field (drop at s)) v (sym g ∙ here), drop-drop 6 at s)
+
+  pub number-missing : f ≡ Fault → numberAt (drop at s) ≡ refuses malformed
+  unfolding numberAt
+  number-missing g = rw (coded-fault (field (drop at s)) (sym g ∙ here))
+
+  pub number-room : (v : ℕ) → f ≡ Value v → at ≤ length s → at + 6 ≤ length s
+  number-room v g h =
+      omega (arith, six (drop at s) v (coded-value (field (drop at s)) v (sym g ∙ here)), length-drop at s)
+
+-- ---- the LF at a place
+
+module _ {X : Type 0} (s : List ℕ) (at : ℕ) (next : List ℕ → Part X) where
+  pub end-missing : length s ≤ at → endOfLine (drop at s) next ≡ refuses malformed
+  unfolding endOfLine
+  end-missing h = rw (drop-of-length-le s h)
+
+  pub end-other : at < length s → (getD s at 0 ≡ 10 → ⊥) → endOfLine (drop at s) next ≡ refuses malformed
+  unfolding endOfLine
+  end-other h e = rw (drop-cons s at 0 h, ne-eqb (getD s at 0) 10 e)
+
+  pub end-there : at < length s → getD s at 0 ≡ 10 → endOfLine (drop at s) next ≡ next (drop (at + 1) s)
+  unfolding endOfLine
+  end-there h e = rw (drop-cons s at 0 h, eq-eqb (getD s at 0) 10 e) (rw add-one)
+
+pub next-at : (s : List ℕ) (at : ℕ) → at ≤ length s → at ≡ length s - length (drop at s)
+next-at s at h = omega (arith, length-drop at s)
+
+-- ---- who a list names, from place i on
+
+module _ (l : List ℕ) (i x : ℕ) where
+  pub mem-end : length l ≤ i → mem x (drop i l) ≡ false
+  unfolding mem
+  mem-end h = rw (drop-of-length-le l h)
+
+  pub mem-here : i < length l → getD l i 0 ≡ x → mem x (drop i l) ≡ true
+  unfolding mem _or_
+  mem-here h e = rw (drop-cons l i 0 h, eq-eqb (getD l i 0) x e)
+
+  pub mem-past : i < length l → (getD l i 0 ≡ x → ⊥) → mem x (drop i l) ≡ mem x (drop (i + 1) l)
+  unfolding mem _or_
+  mem-past h e = rw (drop-cons l i 0 h, ne-eqb (getD l i 0) x e) (rw add-one)
+
+-- each entry of a list of bytes is a byte
+pub mem-byte : (l : List ℕ) (x : ℕ) → ((i : ℕ) → getD l i 0 < 256) → mem x l ≡ true → x < 256
+unfolding mem
+mem-byte [] x h e = conflict e refl
+mem-byte (y ∷ l) x h e =
+    or-cases (eqb y x) (mem x l) e
+    (λ t. omega (arith, eqb-true y x t, h 0)) (λ t. mem-byte l x (λ i. h (suc i)) t)
+
+-- ---- where a batch is put
+
+pub place-given : (p : ℕ) (l : List ℕ) → (p ≡ 0 → ⊥) → placeOr p l ≡ p
+place-given zero l h = absurd (h refl)
+place-given (suc p) l h = refl
+
+pub is-unlisted : (t : Bool) (q : ℕ) → Unlisted ≡ pick t (On q) Unlisted → t ≡ false
+is-unlisted true q e = absurd (let z : _≡_ {A = ℕ} 0 1 = cc in omega arith)
+is-unlisted false q e = refl
+
+pub is-on : (t : Bool) (p q : ℕ) → On p ≡ pick t (On q) Unlisted → (t ≡ true) × (q ≡ p)
+is-on true p q e = let s : q ≡ p = cc in (refl, s)
+is-on false p q e = absurd (let z : _≡_ {A = ℕ} 0 1 = cc in omega arith)
+
+-- ---- a row of 24 entries with k used
+
+pub record Row (k : ℕ) (l : List ℕ) : Type 0 where
+  pub size : length l ≡ 24
+  pub rest : drop k l ≡ replicate (24 - k) 0
+
+pub row-length : (k : ℕ) (l : List ℕ) → k ≤ 24 → padded 24 (take k l) ≡ l → length l ≡ 24
+row-length k l h e =
+    let a : length (padded 24 (take k l)) ≡ length l = ap length e in
+    let b = length-append (take k l) (replicate (24 - length (take k l)) 0) in
+    let c = length-replicate {A = ℕ} (24 - length (take k l)) 0 in
+    omega (arith, length-take k l)
+
+pub row-front : (k : ℕ) (l : List ℕ) → Row k l → k ≤ 24 → length (take k l) ≡ k
+row-front k l r h = length-take-le k l (omega (arith, r .size))
+
+pub row-padded : (k : ℕ) (l : List ℕ) → Row k l → k ≤ 24 → padded 24 (take k l) ≡ l
+row-padded k l r h = rw (row-front k l r h, ← r .rest) (take-append-drop k l)
+
+pub row-more : (k : ℕ) (l : List ℕ) (x : ℕ) → Row k l → k < 24 → Row (k + 1) (set l k x)
+row-more k l x r h =
+    let e : 24 - k ≡ suc (24 - (k + 1)) = omega arith in
+    record {
+      size = length-set l k x ∙ r .size;
+      rest =
+          drop-set-lt (k + 1) l k x (omega arith)
+          ∙ sym (drop-drop 1 k l)
+          ∙ ap (drop 1) (r .rest ∙ ap (λ (n : ℕ). replicate n 0) e);
+    }
+
+pub row-take : (k : ℕ) (l : List ℕ) (x : ℕ) → Row k l → k < 24 → take (k + 1) (set l k x) ≡ take k l ++ (x ∷ [])
+row-take k l x r h = rw add-one (take-suc-set l k x (omega (arith, r .size)))
+
+-- ---- the instruments of a list, after k of c are read into l
+
+module _ (m c k : ℕ) (l r : List ℕ) (h : k < c) where
+  turn : instrumentsAt m (c - k) l r ≡
+      andThen (numberAt r) (λ i u.
+      orRefuse (isInstrument m i and not (mem i l)) badList
+      (instrumentsAt m (c - (k + 1)) (l ++ (i ∷ [])) u))
+  unfolding instrumentsAt
+  turn = let e : c - k ≡ suc (c - (k + 1)) = omega arith in rw e
+
+  pub list-missing : numberAt r ≡ refuses malformed → instrumentsAt m (c - k) l r ≡ refuses malformed
+  list-missing e = rw (turn, e)
+
+  module _ (x : ℕ) (u : List ℕ) (e : numberAt r ≡ gives x u) where
+    pub list-low : x < 1 → instrumentsAt m (c - k) l r ≡ refuses badList
+    unfolding isInstrument _and_
+    list-low a = rw (turn, e, lt-leb 1 x a)
+
+    pub list-high : 1 ≤ x → m < x → instrumentsAt m (c - k) l r ≡ refuses badList
+    unfolding isInstrument _and_
+    list-high a b = rw (turn, e, le-leb 1 x a, lt-leb x m b)
+
+    pub list-again : 1 ≤ x → x ≤ m → mem x l ≡ true → instrumentsAt m (c - k) l r ≡ refuses badList
+    unfolding isInstrument _and_
+    list-again a b d = rw (turn, e, le-leb 1 x a, le-leb x m b, d)
+
+    pub list-more : 1 ≤ x → x ≤ m → mem x l ≡ false
+        → instrumentsAt m (c - k) l r ≡ instrumentsAt m (c - (k + 1)) (l ++ (x ∷ [])) u
+    unfolding isInstrument _and_
+    list-more a b d = rw (turn, e, le-leb 1 x a, le-leb x m b, d)
+
+pub list-start : (m c : ℕ) (l r : List ℕ) → instrumentsAt m (c - 0) l r ≡ instrumentsAt m c l r
+list-start m c l r = let e : c - 0 ≡ c = omega arith in rw e
+
+pub list-done : (m c k : ℕ) (l r : List ℕ) → c ≤ k → instrumentsAt m (c - k) l r ≡ gives l r
+unfolding instrumentsAt
+list-done m c k l r h = let e : c - k ≡ 0 = omega arith in rw e

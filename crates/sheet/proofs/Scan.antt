@@ -1,0 +1,155 @@
+-- A list gone through from the front: what a test of the rest says, an entry at a time.
+-- Assumes nothing.
+use Prim.Native.Nat.{ℕ, zero, suc, _+_, _≤_, _<_}
+use mathlib.Core.Path.{_≡_, refl, sym, ap, _∙_}
+use mathlib.Core.Bool.{Bool, true, false, not}
+use mathlib.Core.List.{List, _∷_}
+use native.Mathlib.Omega.{arith}
+use native.Mathlib.Numerals.{add-one}
+use lib.ListN.{length, getD, set, take, drop, replicate, drop-of-length-le}
+use lib.Seq.{take-suc, take-all, drop-cons, take-add, drop-at, length-take-le, getD-take}
+use borrow.Author.Tests.{eq-eqb, ne-eqb, le-leb, lt-leb, not-true, not-false}
+use Rattle.rules.specs.Fold.{_and_, _or_, mem, every}
+use Rattle.rules.specs.Sheet.{isInstrument, distinct, goodList}
+use Rattle.sheet.specs.Represent.{padded}
+use Rattle.sheet.proofs.Padded.{set-append}
+
+-- the entries from i on name x as those from from on do
+pub record Seeks (x : ℕ) (l : List ℕ) (from i : ℕ) : Type 0 where
+  pub same : mem x (drop i l) ≡ mem x (drop from l)
+
+-- they pass as those do
+pub record Passes (p : ℕ → Bool) (l : List ℕ) (from i : ℕ) : Type 0 where
+  pub same : every p (drop i l) ≡ every p (drop from l)
+
+-- they name no number twice as those do
+pub record Apart (l : List ℕ) (from i : ℕ) : Type 0 where
+  pub same : distinct (drop i l) ≡ distinct (drop from l)
+
+rest : (l : List ℕ) (i : ℕ) → i < length l → drop i l ≡ getD l i 0 ∷ drop (i + 1) l
+rest l i h = rw (add-one, drop-cons l i 0)
+
+module _ {x : ℕ} {l : List ℕ} {from i : ℕ} (s : Seeks x l from i) where
+  pub mem-hit : i < length l → getD l i 0 ≡ x → true ≡ mem x (drop from l)
+  unfolding mem _or_
+  mem-hit h e = sym (sym (s .same) ∙ ap (mem x) (rest l i h) ∙ rw (eq-eqb (getD l i 0) x e))
+
+  pub mem-miss : i < length l → (getD l i 0 ≡ x → ⊥) → Seeks x l from (i + 1)
+  unfolding mem _or_
+  mem-miss h e = record { same = sym (ap (mem x) (rest l i h) ∙ rw (ne-eqb (getD l i 0) x e)) ∙ s .same }
+
+  pub mem-end : length l ≤ i → false ≡ mem x (drop from l)
+  unfolding mem
+  mem-end h = sym (sym (s .same) ∙ ap (mem x) (drop-of-length-le l h))
+
+module _ {p : ℕ → Bool} {l : List ℕ} {from i : ℕ} (s : Passes p l from i) where
+  pub every-fail : i < length l → p (getD l i 0) ≡ false → false ≡ every p (drop from l)
+  unfolding every _and_
+  every-fail h e = sym (sym (s .same) ∙ ap (every p) (rest l i h) ∙ rw e)
+
+  pub every-pass : i < length l → p (getD l i 0) ≡ true → Passes p l from (i + 1)
+  unfolding every _and_
+  every-pass h e = record { same = sym (ap (every p) (rest l i h) ∙ rw e) ∙ s .same }
+
+  pub every-end : length l ≤ i → true ≡ every p (drop from l)
+  unfolding every
+  every-end h = sym (sym (s .same) ∙ ap (every p) (drop-of-length-le l h))
+
+module _ {l : List ℕ} {from i : ℕ} (s : Apart l from i) where
+  pub twice : i < length l → mem (getD l i 0) (drop (i + 1) l) ≡ true → false ≡ distinct (drop from l)
+  unfolding distinct _and_
+  twice h e = sym (sym (s .same) ∙ ap distinct (rest l i h) ∙ rw e)
+
+  pub once : i < length l → mem (getD l i 0) (drop (i + 1) l) ≡ false → Apart l from (i + 1)
+  unfolding distinct _and_
+  once h e = record { same = sym (ap distinct (rest l i h) ∙ rw e) ∙ s .same }
+
+  pub distinct-end : length l ≤ i → true ≡ distinct (drop from l)
+  unfolding distinct
+  distinct-end h = sym (sym (s .same) ∙ ap distinct (drop-of-length-le l h))
+
+-- ---- a part of a list
+
+-- the part's entries from i on name x as the whole part does
+pub record Part (x : ℕ) (l : List ℕ) (from count i : ℕ) : Type 0 where
+  pub seeks : Seeks x (take (from + count) l) from i
+  pub few : i ≤ from + count
+
+pub part-start : {x : ℕ} {l : List ℕ} {from count : ℕ} → Part x l from count from
+part-start = record { seeks = record { same = refl }; few = omega arith }
+
+module _ {x : ℕ} {l : List ℕ} {from count i : ℕ} (p : Part x l from count i) (f : from + count ≤ length l) where
+  long : length (take (from + count) l) ≡ from + count
+  long = length-take-le (from + count) l f
+
+  part : drop from (take (from + count) l) ≡ take count (drop from l)
+  part =
+      ap (drop from) (take-add from count l)
+      ∙ drop-at (take from l) (take count (drop from l)) from (length-take-le from l (omega arith))
+
+  pub part-hit : i < from + count → getD l i 0 ≡ x → true ≡ mem x (take count (drop from l))
+  part-hit h e =
+      mem-hit (p .seeks) (omega (arith, long)) (getD-take (from + count) l i 0 h ∙ e) ∙ ap (mem x) part
+
+  pub part-miss : i < from + count → (getD l i 0 ≡ x → ⊥) → Part x l from count (i + 1)
+  part-miss h e = record {
+    seeks = mem-miss (p .seeks) (omega (arith, long)) (λ g. e (sym (getD-take (from + count) l i 0 h) ∙ g));
+    few = omega arith;
+  }
+
+  pub part-end : from + count ≤ i → false ≡ mem x (take count (drop from l))
+  part-end h = mem-end (p .seeks) (omega (arith, long)) ∙ ap (mem x) part
+
+-- ---- a list copied into a row
+
+-- row has the first i entries of l, and 0 behind them
+pub record Rowed (l row : List ℕ) (i : ℕ) : Type 0 where
+  pub few : i ≤ length l
+  pub same : row ≡ padded 24 (take i l)
+
+pub rowed-start : {l : List ℕ} → Rowed l (replicate 24 0) 0
+rowed-start = record { few = omega arith; same = refl }
+
+pub rowed-step : {l row : List ℕ} {i : ℕ} → Rowed l row i → length l ≤ 24 → i < length l →
+    Rowed l (set row i (getD l i 0)) (i + 1)
+rowed-step {l} {row} {i} r f h = record {
+  few = omega arith;
+  same =
+      ap (λ (x : List ℕ). set x i (getD l i 0)) (r .same)
+      ∙ set-append 24 (take i l) i (getD l i 0) (length-take-le i l (r .few)) (omega arith)
+      ∙ ap (padded 24) (sym (take-suc l i 0 h) ∙ ap (λ (j : ℕ). take j l) (sym (add-one i)));
+}
+
+pub rowed-end : {l row : List ℕ} {i : ℕ} → Rowed l row i → length l ≤ i → row ≡ padded 24 l
+rowed-end {l} {row} {i} r h = r .same ∙ ap (padded 24) (take-all i l h)
+
+-- ---- a flag negated, of a call that answers a test
+
+pub failed : {t u : Bool} → t ≡ u → not t ≡ true → u ≡ false
+failed {t} e f = sym e ∙ not-true t f
+
+pub passed : {t u : Bool} → t ≡ u → not t ≡ false → u ≡ true
+passed {t} e f = sym e ∙ not-false t f
+
+-- ---- a good list, by its four tests
+
+pub positive : (x : ℕ) → (x ≡ 0 → ⊥) → 1 ≤ x
+positive zero e = absurd (e refl)
+positive (suc x) e = omega arith
+
+module _ (m : ℕ) (l : List ℕ) where
+  pub list-empty : length l ≡ 0 → false ≡ goodList m l
+  unfolding goodList _and_
+  list-empty e = rw e
+
+  pub list-long : m < length l → false ≡ goodList m l
+  unfolding goodList _and_
+  list-long h = rw (le-leb 1 (length l) (omega arith), lt-leb (length l) m h)
+
+  pub list-strange : (length l ≡ 0 → ⊥) → length l ≤ m → every (isInstrument m) l ≡ false → false ≡ goodList m l
+  unfolding goodList _and_
+  list-strange z h e = rw (le-leb 1 (length l) (positive (length l) z), le-leb (length l) m h, e)
+
+  pub list-apart : (length l ≡ 0 → ⊥) → length l ≤ m → every (isInstrument m) l ≡ true → distinct l ≡ goodList m l
+  unfolding goodList _and_
+  list-apart z h e = rw (le-leb 1 (length l) (positive (length l) z), le-leb (length l) m h, e)

@@ -1,0 +1,93 @@
+-- `Sheet::requalify` meets its contract.
+-- Assumes nothing.
+use native.Mathlib.Omega.{arith}
+use borrow.Author.Needs.{needs}
+use Rattle.sheet.proofs.Scan.{failed, passed}
+use Rattle.sheet.proofs.Held.{index, good-long, row-fits}
+use Rattle.sheet.proofs.Edits.{requalify-none, requalify-bad, requalify-done}
+use Rattle.sheet.proofs.Sheet.requalify.Statement.{statement}
+use Rattle.sheet.proofs.Sheet.requalify.Tie as tie
+
+within-requires : tie.Need-within-requires
+within-requires c κs = search needs
+
+returns : tie.Need-returns
+returns c =
+    let s = c .before .before .before in
+    requalify-none (s .args .t1) (s .pre) (s .args .batch) (s .args .list .now) (failed (c .before .within .ensures)
+    (c .if1 .taken))
+
+good-list-requires : tie.Need-good-list-requires
+good-list-requires c κs = search needs
+
+returns-2 : tie.Need-returns-2
+returns-2 c =
+    let s = c .before .before .before .before .before in
+    let n = passed (c .before .before .before .within .ensures) (c .before .before .if1 .left) in
+    requalify-bad (s .args .t1) (s .pre) (s .args .batch) (s .args .list .now) n (failed
+    (c .before .good-list .ensures) (c .if2 .taken))
+
+row-of-requires : tie.Need-row-of-requires
+row-of-requires c κs =
+    let s = c .before .before .before .before .before in
+    let g = passed (c .before .good-list .ensures) (c .if2 .left) in
+    row-fits (s .args .t1) (s .pre) (s .args .list .now) g
+
+sub-at : tie.Need-sub-at
+sub-at c =
+    let s = c .before .before .before .before .before .before in
+    let n = passed (c .before .before .before .before .within .ensures) (c .before .before .before .if1 .left) in
+    index (s .args .t1) (s .pre) (s .args .batch) n .0
+
+element-copy-out-kept-place : tie.Need-element-copy-out-kept-place
+element-copy-out-kept-place c =
+    let s = c .before .before .before .before .before .before in
+    let n = passed (c .before .before .before .before .within .ensures) (c .before .before .before .if1 .left) in
+    index (s .args .t1) (s .pre) (s .args .batch) n .2
+
+kept-place-requires : tie.Need-kept-place-requires
+kept-place-requires c κs =
+    let s = c .before .before .before .before .before .before .before in
+    let g = passed (c .before .before .before .good-list .ensures) (c .before .before .if2 .left) in
+    let l = good-long (s .args .t1 .m) (s .args .list .now) g .0 in
+    (l, row-fits (s .args .t1) (s .pre) (s .args .list .now) g .1 0 l)
+
+cast-requalified : tie.Need-cast-requalified
+cast-requalified c =
+    let s = c .before .before .before .before .before .before .before .before in
+    let g = passed (c .before .before .before .before .good-list .ensures) (c .before .before .before .if2 .left) in
+    omega (arith, row-fits (s .args .t1) (s .pre) (s .args .list .now) g .0)
+
+requalified-requires : tie.Need-requalified-requires
+requalified-requires c κs =
+    let s = c .before .before .before .before .before .before .before .before in
+    let n = passed (c .before .before .before .before .before .before .within .ensures)
+    (c .before .before .before .before .before .if1 .left) in
+    index (s .args .t1) (s .pre) (s .args .batch) n .2
+
+returns-3 : tie.Need-returns-3
+returns-3 c =
+    let s = c .before .before .before .before .before .before .before .before .before in
+    let n = passed (c .before .before .before .before .before .before .before .within .ensures)
+    (c .before .before .before .before .before .before .if1 .left) in
+    let g = passed (c .before .before .before .before .before .good-list .ensures)
+    (c .before .before .before .before .if2 .left) in
+    requalify-done (s .args .t1) (s .pre) (s .args .batch) (s .args .list .now) (c .before .kept-place .result)
+    (c .before .before .before .row-of .result) (c .requalified .result) n g
+    (c .before .kept-place .ensures) (c .before .before .before .row-of .ensures) (c .requalified .ensures)
+
+pub requalify-spec : {M : Type 1} → statement M
+requalify-spec =
+    tie.close
+    (tie.spec
+    within-requires
+    returns
+    good-list-requires
+    returns-2
+    row-of-requires
+    sub-at
+    element-copy-out-kept-place
+    kept-place-requires
+    cast-requalified
+    requalified-requires
+    returns-3)

@@ -1,0 +1,115 @@
+-- Between two batch lines: the batches so far are in the sheet, and what is left goes on from them as the rules do.
+-- Assumes nothing.
+use Prim.Native.Nat.{ℕ, suc, _+_, _-_, _≤_, _<_}
+use mathlib.Core.Path.{_≡_, refl, sym, ap, _∙_}
+use mathlib.Core.Bool.{true}
+use mathlib.Core.List.{List, [], _∷_, _++_}
+use native.Mathlib.Omega.{arith}
+use borrow.Author.Tests.{le-leb}
+use lib.ListN.{length, drop, drop-of-length-le, length-append}
+use lib.Seq.{drop-cons}
+use Rattle.rules.specs.Fold.{every}
+use Rattle.rules.specs.Refusal.{malformed}
+use Rattle.rules.specs.Sheet.{Book, Batch}
+use Rattle.rules.specs.Read.{batchLine, accepted, refusedAt, batchLines}
+use Rattle.theory.proofs.Member.{every-append, every-one}
+use Rattle.sheet.specs.declared.Refusal.the-variants.{Nothing, Malformed}
+use Rattle.sheet.specs.declared.Sheet.{Sheet}
+use Rattle.sheet.specs.declared.read.Line.{Line}
+use Rattle.sheet.specs.Represent.{padded, sheetOf, appended, blank}
+use Rattle.sheet.specs.Answers.{readAs}
+use Rattle.sheet.specs.Lines.{lineAs, unread}
+use Rattle.sheet.proofs.Represent.{narrow, append-law}
+use Rattle.sheet.proofs.Given.{LineGiven, line-refused}
+
+-- the book of the batches bs
+abbrev booked : ℕ → List Batch → Book
+booked m bs = record { m = m; batches = bs }
+
+module _ (s : List ℕ) (at m n : ℕ) where
+  -- i of the n batch lines from at on are read, up to next
+  pub record Sofar (sheet : Sheet) (next i : ℕ) : Type 0 where
+    pub batches : List Batch
+    pub count : length batches ≡ i
+    pub fit : every narrow batches ≡ true
+    pub same : sheet ≡ sheetOf (booked m batches)
+    pub room : next ≤ length s
+    pub few : i ≤ n
+    pub rest : batchLines m (n - i) (i + 2) batches (drop next s) ≡ batchLines m n 2 [] (drop at s)
+
+  -- no line is read yet
+  pub none-yet : (z : Sheet) → z ≡ blank → at ≤ length s
+      → Sofar (record { m = m; n = z .n; minutes = z .minutes; places = z .places; counts = z .counts; lists = z .lists }) at 0
+  unfolding every sheetOf
+  none-yet z e h =
+      let c : n - 0 ≡ n = omega arith in
+      record {
+        batches = [];
+        count = refl;
+        fit = refl;
+        same =
+            ap (λ (x : Sheet). record { m = m; n = x .n; minutes = x .minutes; places = x .places; counts = x .counts; lists = x .lists }) e;
+        room = h;
+        few = omega arith;
+        rest = ap (λ (k : ℕ). batchLines m k 2 [] (drop at s)) c;
+      }
+
+  module _ (sheet : Sheet) (next i : ℕ) (f : Sofar sheet next i) where
+    pub size-now : sheet .n ≡ i
+    unfolding sheetOf
+    size-now = ap (λ (z : Sheet). z .n) (f .same) ∙ f .count
+
+    step : (x : Line) (h : next ≤ length s) (g : LineGiven s next h m x) → i < n →
+        batchLines m (n - (i + 1)) (i + 1 + 2) (f .batches ++ (g .batch ∷ [])) (drop (x .next) s) ≡ batchLines m n 2 [] (drop at s)
+    unfolding batchLines
+    step x h g l =
+        let e : n - i ≡ suc (n - (i + 1)) = omega arith in
+        let j : i + 1 + 2 ≡ suc (i + 2) = omega arith in
+        let b : batchLines m (n - i) (i + 2) (f .batches) (drop next s)
+        ≡ batchLines m (n - (i + 1)) (suc (i + 2)) (f .batches ++ (g .batch ∷ [])) (drop (x .next) s) = rw (e, g .part) in
+        ap (λ (k : ℕ). batchLines m (n - (i + 1)) k (f .batches ++ (g .batch ∷ [])) (drop (x .next) s)) j ∙ sym b ∙ f .rest
+
+    -- one line more
+    pub one-more : (x : Line) (h : next ≤ length s) → LineGiven s next h m x → i < n → n ≤ 200
+        → Sofar (appended sheet (x .minutes) (x .place) (x .count) (x .list)) (x .next) (i + 1)
+    one-more x h g l u =
+        let b : Batch = g .batch in
+        let e : appended sheet (x .minutes) (x .place) (x .count) (x .list)
+        ≡ appended (sheetOf (booked m (f .batches))) (b .minutes) (b .place) (length (b .list)) (padded 24 (b .list)) =
+        rw (f .same, g .minutes, g .place, g .count, g .list) in
+        record {
+          batches = f .batches ++ (b ∷ []);
+          count = omega (arith, length-append (f .batches) (b ∷ []), f .count);
+          fit = every-append narrow (f .batches) (b ∷ []) (f .fit) (every-one narrow b (le-leb (length (b .list)) 24 (g .fits)));
+          same = e ∙ append-law (booked m (f .batches)) b (omega (arith, f .count)) (f .fit) (g .fits);
+          room = g .room;
+          few = omega arith;
+          rest = step x h g l;
+        }
+
+    -- the next line is refused
+    pub then-refused : (x : Line) → x ≡ lineAs (length s) (i + 2) (batchLine m (drop next s)) → (x .refusal ≡ Nothing → ⊥) → i < n
+        → unread (x .refusal) (x .line) ≡ readAs (batchLines m n 2 [] (drop at s))
+    then-refused x e o l =
+        let c : suc (n - (i + 1)) ≡ n - i = omega arith in
+        line-refused s next m (n - (i + 1)) (i + 2) (f .batches) x e o
+        ∙ ap readAs (ap (λ (k : ℕ). batchLines m k (i + 2) (f .batches) (drop next s)) c ∙ f .rest)
+
+    -- bytes are left over
+    pub left-over : n ≤ i → next < length s → unread Malformed (i + 2) ≡ readAs (batchLines m n 2 [] (drop at s))
+    unfolding batchLines
+    left-over l h =
+        let c : n - i ≡ 0 = omega arith in
+        let e : batchLines m (n - i) (i + 2) (f .batches) (drop next s) ≡ refusedAt malformed (i + 2) =
+        rw (c, drop-cons s next 0 h) in
+        ap readAs (sym e ∙ f .rest)
+
+    -- nothing follows
+    pub all-read : n ≤ i → length s ≤ next
+        → record { refusal = Nothing; line = 0; sheet = sheet } ≡ readAs (batchLines m n 2 [] (drop at s))
+    unfolding batchLines
+    all-read l h =
+        let c : n - i ≡ 0 = omega arith in
+        let e : batchLines m (n - i) (i + 2) (f .batches) (drop next s) ≡ accepted (booked m (f .batches)) =
+        rw (c, drop-of-length-le s h) in
+        ap (λ (z : Sheet). record { refusal = Nothing; line = 0; sheet = z }) (f .same) ∙ ap readAs (sym e ∙ f .rest)
