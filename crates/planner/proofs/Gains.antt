@@ -11,10 +11,10 @@ use borrow.Author.Tests.{ltb-true, ltb-false, lt-ltb, le-ltb, ne-eqb}
 use Rattle.rules.specs.Fold.{_and_, at, anyTo, lesser, greater, greatestTo}
 use Rattle.theory.proofs.Logic.{byTest}
 use Rattle.theory.proofs.View.{Greatest, greatest}
-use Rattle.planner.specs.Sets.{has}
+use Rattle.arrays.specs.Sets.{has}
 use Rattle.planner.specs.Settling.{other, gainsAt, gains}
-use Rattle.planner.proofs.Going.{any-ext}
-use Rattle.planner.proofs.Search.{and-no-left, and-no-right, any-miss}
+use Rattle.trials.proofs.Going.{any-ext}
+use Rattle.arrays.proofs.Search.{and-no-left, and-no-right, any-miss}
 
 pub and-true : (a : Bool) → a and true ≡ a
 unfolding _and_

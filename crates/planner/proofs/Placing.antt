@@ -11,11 +11,11 @@ use Rattle.rules.specs.Load.{load, elsewhere, improvesAt, improves}
 use Rattle.rules.specs.Settle.{mover, target}
 use Rattle.theory.proofs.Valid.{on-machine}
 use Rattle.theory.proofs.Turn.{first-ext}
-use Rattle.planner.specs.Reads.{Reads}
+use Rattle.trials.specs.Reads.{Reads}
 use Rattle.planner.specs.Settling.{other, gainsAt, gains, Placing, Known}
-use Rattle.planner.proofs.Take.{at-take, take-long}
-use Rattle.planner.proofs.Raising.{least-agree}
-use Rattle.planner.proofs.Going.{any-ext}
+use Rattle.trials.proofs.Take.{at-take, take-long}
+use Rattle.trials.proofs.Raising.{least-agree}
+use Rattle.trials.proofs.Going.{any-ext}
 use Rattle.planner.proofs.Gains.{greatest-agree}
 
 module _ {I : Instance} {m c : ℕ} {lengths sets places loads : List ℕ} (r : Reads I m c lengths sets) (p : Placing I m c places loads) where

@@ -13,11 +13,11 @@ use Rattle.rules.specs.Settle.{mover, target, moved}
 use Rattle.theory.proofs.Makespan.{load-ge}
 use Rattle.theory.proofs.Review.{Improves}
 use Rattle.theory.proofs.Settling.{mover-some, target-better, moved-permitted}
-use Rattle.planner.specs.Reads.{Reads}
+use Rattle.trials.specs.Reads.{Reads}
 use Rattle.planner.specs.Settling.{Placing, Moved}
-use Rattle.planner.proofs.Take.{at-take, take-put}
-use Rattle.planner.proofs.Shifted.{shifted, length-shifted, shifted-loads}
-use Rattle.planner.proofs.Loads.{at-index, put-index}
+use Rattle.trials.proofs.Take.{at-take, take-put}
+use Rattle.trials.proofs.Shifted.{shifted, length-shifted, shifted-loads}
+use Rattle.arrays.proofs.Entries.{at-index, put-index}
 use Rattle.planner.proofs.Placing.{place-in, places-long}
 
 -- the same by index

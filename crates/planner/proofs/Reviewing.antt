@@ -13,9 +13,9 @@ use Rattle.rules.specs.Instance.{Instance, minutesOf}
 use Rattle.rules.specs.Load.{load, makespan, improves, review}
 use Rattle.theory.proofs.Valid.{Permitted}
 use Rattle.theory.proofs.Fold.{sumTo-ext}
-use Rattle.planner.specs.Reads.{Reads}
+use Rattle.trials.specs.Reads.{Reads}
 use Rattle.planner.specs.Settling.{Placing, ReviewIs}
-use Rattle.planner.proofs.Take.{at-take}
+use Rattle.trials.proofs.Take.{at-take}
 
 -- a list's front part, by its entries
 pub take-list : (k : ℕ) (l : List ℕ) (f : ℕ → ℕ) → k ≤ length l → ((i : ℕ) → 0 < i → i ≤ k → at l i ≡ f i) → take k l ≡ listTo k f
@@ -32,17 +32,18 @@ max-agree (suc k) f g h =
 
 module _ {I : Instance} {m c : ℕ} {lengths sets : List ℕ} (r : Reads I m c lengths sets) where
   -- loads that were added up over the places
+  pub added-loads : (places loads : List ℕ)
+      → ((i : ℕ) → 0 < i → i ≤ m → at loads i ≡ sumTo c (λ b. pick (eqb (at places b) i) (at lengths b) 0))
+      → (i : ℕ) → 0 < i → i ≤ m → at loads i ≡ load I (take c places) i
+  unfolding load
+  added-loads places loads h i l v =
+      h i l v
+      ∙ sumTo-ext c _ _ (λ b bl bu. rw (at-take c places b bu, r .minutes b bl bu))
+      ∙ ap (λ (k : ℕ). sumTo k (λ b. pick (eqb (at (take c places) b) i) (minutesOf I b) 0)) (sym (r .jobs))
+
   pub added-placing : (places loads : List ℕ) → Permitted I (take c places) → m ≤ length loads
       → ((i : ℕ) → 0 < i → i ≤ m → at loads i ≡ sumTo c (λ b. pick (eqb (at places b) i) (at lengths b) 0)) → Placing I m c places loads
-  unfolding load
-  added-placing places loads w u h = record {
-    permitted = w;
-    long = u;
-    each = λ i l v.
-        h i l v
-        ∙ sumTo-ext c _ _ (λ b bl bu. rw (at-take c places b bu, r .minutes b bl bu))
-        ∙ ap (λ (k : ℕ). sumTo k (λ b. pick (eqb (at (take c places) b) i) (minutesOf I b) 0)) (sym (r .jobs));
-  }
+  added-placing places loads w u h = record { permitted = w; long = u; each = added-loads places loads h }
 
   pub review-is : {places loads : List ℕ} (greatest lowest : ℕ) → Placing I m c places loads → greatest ≡ maxTo m (λ i. at loads i)
       → lowest ≡ firstTo c (λ b. improves I (take c places) b) → ReviewIs I m c places loads greatest lowest

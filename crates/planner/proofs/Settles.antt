@@ -15,7 +15,7 @@ use Rattle.rules.specs.Settle.{mover, moved, squares, Settled, settleBy, settle
 use Rattle.theory.proofs.Logic.{byTest}
 use Rattle.theory.proofs.Fold.{sumTo-ext, sumTo-bound}
 use Rattle.theory.proofs.Settling.{move-lowers, run-still}
-use Rattle.planner.specs.Reads.{Reads}
+use Rattle.trials.specs.Reads.{Reads}
 use Rattle.planner.specs.Settling.{Placing, Moved, SettledTo}
 use Rattle.planner.proofs.Relocate.{due-improves}
 

@@ -1,6 +1,3 @@
-pub mod Sets
-pub mod Reads
-pub mod Track
-pub mod Floor
-pub mod Jobs
 pub mod Settling
+pub mod Calls
+pub mod Search

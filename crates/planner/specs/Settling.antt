@@ -11,8 +11,8 @@ use Rattle.rules.specs.Instance.{Instance}
 use Rattle.rules.specs.Load.{load, review}
 use Rattle.rules.specs.Settle.{mover, moved, settle}
 use Rattle.theory.proofs.Valid.{Permitted}
-use Rattle.planner.specs.Sets.{has}
-use Rattle.planner.specs.Reads.{Reads}
+use Rattle.arrays.specs.Sets.{has}
+use Rattle.trials.specs.Reads.{Reads}
 
 -- machine i is another one of the set than `place`
 unfoldable pub other : ℕ → ℕ → ℕ → Bool

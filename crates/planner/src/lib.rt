@@ -1,19 +1,19 @@
-// The planner over the sheet: review, the single trial, settling, balance and planning.
-pub mod review;
-pub mod scan;
-pub mod sets;
-pub mod settle;
-pub mod step;
+// The planner over the sheet: review and the single trial, and settling on arrays.
+use sheet::Refusal;
 
-// A trial between two steps: the heights of machines and jobs and the places, and beside them, for speed, the loads, the set of
-// machines at each height, the counts, and whether nothing can act.
-pub struct State {
-    machines: [u8; 24],
-    jobs: [u8; 200],
-    places: [u8; 200],
-    loads: [u32; 24],
-    levels: [u32; 64],
-    lifts: u32,
-    pushes: u32,
-    resting: bool,
+pub mod balance;
+pub mod calls;
+pub mod review;
+pub mod settle;
+
+// What a trial answers: its refusal, or Nothing; pass or failure; lifts and pushes; and the places of a pass, or the group of a
+// failure with its size. Whatever is not said is 0.
+pub struct Tried {
+    pub refusal: Refusal,
+    pub passed: bool,
+    pub lifts: u32,
+    pub pushes: u32,
+    pub places: [u8; 200],
+    pub size: usize,
+    pub group: [u8; 24],
 }

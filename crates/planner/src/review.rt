@@ -5,11 +5,11 @@ ghost use lib.ListN.{take};
 ghost use Rattle.rules.specs.Fold.{at};
 ghost use Rattle.rules.specs.Instance.{Instance};
 ghost use Rattle.theory.proofs.Valid.{Permitted};
-ghost use Rattle.planner.specs.Reads.{Reads};
+ghost use Rattle.trials.specs.Reads.{Reads};
 ghost use Rattle.planner.specs.Settling.{Allowed, ReviewIs};
-use crate::scan::largest_load;
-use crate::scan::loads_of;
 use crate::settle::first_improving;
+use arrays::scan::largest_load;
+use arrays::scan::loads_of;
 
 // Entries of `loads` past the last machine are 0.
 pub struct Reviewed {

@@ -8,23 +8,16 @@ ghost use Rattle.rules.specs.Fold.{_and_, at, anyTo, firstTo, lesser, leastTo, 
 ghost use Rattle.rules.specs.Instance.{Instance};
 ghost use Rattle.rules.specs.Load.{improves};
 ghost use Rattle.rules.specs.Settle.{mover, target};
-ghost use Rattle.planner.specs.Sets.{has};
-ghost use Rattle.planner.specs.Reads.{Reads};
+ghost use Rattle.arrays.specs.Sets.{has};
+ghost use Rattle.trials.specs.Reads.{Reads};
 ghost use Rattle.planner.specs.Settling.{other, gains, Placing, Known, Due, Moved, SettledTo};
+use arrays::sets::is_in;
 
 // The places and loads after settling, and how many moves it took.
 pub struct Settled {
     pub places: [u8; 200],
     pub loads: [u32; 24],
     pub moves: u64,
-}
-
-// The machine at index i is in the set.
-fn is_in(x: u32, i: usize) -> bool
-    requires { ⌜ i < 24 ⌝ }
-    ensures { λ r. ⌜ r ≡ has x (suc i) ⌝ }
-{
-    (x >> i) % 2 == 1
 }
 
 // It is another one of the set than `place`.

@@ -1,4 +1,4 @@
--- A row entered in an array, one store at a time.
+-- A part entered in an array, one store at a time.
 -- Assumes nothing.
 use Prim.Native.Nat.{ℕ, _+_, _≤_, _<_}
 use mathlib.Core.Path.{_≡_, refl, sym, ap, _∙_}
@@ -8,19 +8,19 @@ use native.Mathlib.Numerals.{add-one}
 use lib.ListN.{length, getD, set, length-set}
 use lib.Seq.{paste, paste-zero, paste-suc}
 
--- a is d with the first j entries of the row s at at
-pub record Entered (d : List ℕ) (at : ℕ) (s a : List ℕ) (j : ℕ) : Type 0 where
-  pub few : j ≤ 24
+-- a is d with the first j entries of s at at; n are to be entered
+pub record Entered (d : List ℕ) (at : ℕ) (s : List ℕ) (n : ℕ) (a : List ℕ) (j : ℕ) : Type 0 where
+  pub few : j ≤ n
   pub long : length a ≡ length d
   pub same : a ≡ paste d at s j
 
-pub entered-start : {d : List ℕ} {at : ℕ} {s : List ℕ} → Entered d at s d 0
+pub entered-start : {d : List ℕ} {at : ℕ} {s : List ℕ} {n : ℕ} → Entered d at s n d 0
 entered-start {d} {at} {s} = record { few = omega arith; long = refl; same = paste-zero d at s }
 
-pub entered-step : {d : List ℕ} {at : ℕ} {s a : List ℕ} {j : ℕ} → Entered d at s a j → at + 24 ≤ length d →
-    length s ≡ 24 → j < 24 →
-    Entered d at s (set a (at + j) (getD s j 0)) (j + 1)
-entered-step {d} {at} {s} {a} {j} e f g h = record {
+pub entered-step : {d : List ℕ} {at : ℕ} {s : List ℕ} {n : ℕ} {a : List ℕ} {j : ℕ} → Entered d at s n a j → at + n ≤ length d →
+    n ≤ length s → j < n →
+    Entered d at s n (set a (at + j) (getD s j 0)) (j + 1)
+entered-step {d} {at} {s} {n} {a} {j} e f g h = record {
   few = omega arith;
   long = length-set a (at + j) (getD s j 0) ∙ e .long;
   same =
@@ -29,5 +29,5 @@ entered-step {d} {at} {s} {a} {j} e f g h = record {
       ∙ ap (paste d at s) (sym (add-one j));
 }
 
-pub entered-end : {d : List ℕ} {at : ℕ} {s a : List ℕ} {j : ℕ} → Entered d at s a j → 24 ≤ j → a ≡ paste d at s 24
-entered-end {d} {at} {s} {a} {j} e h = let t : j ≡ 24 = omega (arith, e .few) in e .same ∙ ap (paste d at s) t
+pub entered-end : {d : List ℕ} {at : ℕ} {s : List ℕ} {n : ℕ} {a : List ℕ} {j : ℕ} → Entered d at s n a j → n ≤ j → a ≡ paste d at s n
+entered-end {d} {at} {s} {n} {a} {j} e h = let t : j ≡ n = omega (arith, e .few) in e .same ∙ ap (paste d at s) t

@@ -6,7 +6,7 @@ use mathlib.Core.Bool.{true}
 use mathlib.Core.List.{List, [], _∷_, _++_}
 use native.Mathlib.Omega.{arith}
 use borrow.Author.Tests.{le-leb}
-use lib.ListN.{length, drop, drop-of-length-le, length-append}
+use lib.ListN.{length, drop, replicate, drop-of-length-le, length-append}
 use lib.Seq.{drop-cons}
 use Rattle.rules.specs.Fold.{every}
 use Rattle.rules.specs.Refusal.{malformed}
@@ -16,15 +16,27 @@ use Rattle.theory.proofs.Member.{every-append, every-one}
 use Rattle.sheet.specs.declared.Refusal.the-variants.{Nothing, Malformed}
 use Rattle.sheet.specs.declared.Sheet.{Sheet}
 use Rattle.sheet.specs.declared.read.Line.{Line}
-use Rattle.sheet.specs.Represent.{padded, sheetOf, appended, blank}
+use Rattle.sheet.specs.Represent.{padded, rows, sheetOf, appended}
 use Rattle.sheet.specs.Answers.{readAs}
 use Rattle.sheet.specs.Lines.{lineAs, unread}
-use Rattle.sheet.proofs.Represent.{narrow, append-law}
+use Rattle.sheet.proofs.Padded.{length-padded}
+use Rattle.sheet.proofs.Represent.{narrow, length-rows, append-law}
 use Rattle.sheet.proofs.Given.{LineGiven, line-refused}
 
 -- the book of the batches bs
 abbrev booked : ℕ → List Batch → Book
 booked m bs = record { m = m; batches = bs }
+
+-- the sheet that these arrays make
+abbrev pub held : ℕ → ℕ → List ℕ → List ℕ → List ℕ → List ℕ → Sheet
+held m n minutes places counts lists = record {
+  m = m;
+  n = n;
+  minutes = minutes;
+  places = places;
+  counts = counts;
+  lists = lists;
+}
 
 module _ (s : List ℕ) (at m n : ℕ) where
   -- i of the n batch lines from at on are read, up to next
@@ -38,26 +50,28 @@ module _ (s : List ℕ) (at m n : ℕ) where
     pub rest : batchLines m (n - i) (i + 2) batches (drop next s) ≡ batchLines m n 2 [] (drop at s)
 
   -- no line is read yet
-  pub none-yet : (z : Sheet) → z ≡ blank → at ≤ length s
-      → Sofar (record { m = m; n = z .n; minutes = z .minutes; places = z .places; counts = z .counts; lists = z .lists }) at 0
+  pub none-yet : at ≤ length s →
+      Sofar (held m 0 (replicate 200 0) (replicate 200 0) (replicate 200 0) (replicate 4800 0)) at 0
   unfolding every sheetOf
-  none-yet z e h =
+  none-yet h =
       let c : n - 0 ≡ n = omega arith in
       record {
         batches = [];
         count = refl;
         fit = refl;
-        same =
-            ap (λ (x : Sheet). record { m = m; n = x .n; minutes = x .minutes; places = x .places; counts = x .counts; lists = x .lists }) e;
+        same = refl;
         room = h;
         few = omega arith;
         rest = ap (λ (k : ℕ). batchLines m k 2 [] (drop at s)) c;
       }
 
   module _ (sheet : Sheet) (next i : ℕ) (f : Sofar sheet next i) where
-    pub size-now : sheet .n ≡ i
+    pub lists-long : n ≤ 200 → length (sheet .lists) ≡ 4800
     unfolding sheetOf
-    size-now = ap (λ (z : Sheet). z .n) (f .same) ∙ f .count
+    lists-long h =
+        let r = rows (f .batches) in
+        ap (λ (z : Sheet). length (z .lists)) (f .same)
+        ∙ length-padded 4800 r (omega (arith, length-rows (f .batches) (f .fit), f .count, f .few))
 
     step : (x : Line) (h : next ≤ length s) (g : LineGiven s next h m x) → i < n →
         batchLines m (n - (i + 1)) (i + 1 + 2) (f .batches ++ (g .batch ∷ [])) (drop (x .next) s) ≡ batchLines m n 2 [] (drop at s)

@@ -12,7 +12,7 @@ ghost use Rattle.sheet.specs.Change.{cut, removed, requalified};
 use crate::Edited;
 use crate::Refusal;
 use crate::Sheet;
-use crate::enter_row;
+use crate::enter_part;
 
 impl Sheet {
     // A batch more, at the end, on the first listed.
@@ -161,7 +161,12 @@ impl Sheet {
         self.places[at] = place;
         self.counts[at] = count;
         let mut lists = self.lists;
-        enter_row(&mut lists, at * Sheet::INSTRUMENTS, &row);
+        enter_part(
+            &mut lists,
+            at * Sheet::INSTRUMENTS,
+            &row,
+            Sheet::INSTRUMENTS,
+        );
         self.lists = lists;
         self
     }

@@ -7,6 +7,7 @@ ghost use Rattle.sheet.specs.Represent.{appended, blank};
 
 pub mod edit;
 pub mod read;
+pub mod view;
 
 // Document 01's refusals, by name; Nothing is none.
 pub enum Refusal {
@@ -76,21 +77,21 @@ impl Sheet {
         self.places[n] = place;
         self.counts[n] = count;
         let mut lists = self.lists;
-        enter_row(&mut lists, n * 24, &row);
+        enter_part(&mut lists, n * 24, &row, 24);
         self.lists = lists;
         self.n = n + 1;
         self
     }
 }
 
-// The 24 entries from at on become those of row.
-fn enter_row(a: &mut [u8], at: usize, row: &[u8])
-    requires { ⌜ at + 24 ≤ length (now a) ⌝ ∗ ⌜ length (now row) ≡ 24 ⌝ }
-    ensures { λ r. ⌜ now (a .exit) ≡ paste (now (a .entry)) at (now (row .entry)) 24 ⌝ }
+// The count entries from at on become the first of part.
+fn enter_part(a: &mut [u8], at: usize, part: &[u8], count: usize)
+    requires { ⌜ at + count ≤ length (now a) ⌝ ∗ ⌜ count ≤ length (now part) ⌝ }
+    ensures { λ r. ⌜ now (a .exit) ≡ paste (now (a .entry)) at (now (part .entry)) count ⌝ }
 {
     let mut j = 0;
-    while j < 24 {
-        a[at + j] = row[j];
+    while j < count {
+        a[at + j] = part[j];
         j += 1;
     }
 }

@@ -12,6 +12,7 @@ ghost use Rattle.sheet.specs.Answers.{readAs, readOf};
 use crate::Reading;
 use crate::Refusal;
 use crate::Sheet;
+use crate::enter_part;
 
 // What a field gives: its number, or the fault that is refusal 1.
 pub enum Field {
@@ -166,12 +167,13 @@ impl Listed {
     }
 }
 
-// c instruments from at on, each judged at its own field.
+// c instruments from at on, each judged at its own field. Those so far are marked in seen.
 fn instruments(s: &[u8], at: usize, m: usize, c: usize) -> Listed
     requires { ⌜ (at ≤ length (now s)) × (m ≤ 24) × (c ≤ m) ⌝ }
     ensures { λ r. ⌜ r ≡ listAs (length (now (s .entry))) (instrumentsAt m c [] (drop at (now (s .entry)))) ⌝ }
 {
     let mut list = [0u8; 24];
+    let mut seen = [0u8; 24];
     let mut k = 0;
     let mut next = at;
     while k < c {
@@ -184,9 +186,11 @@ fn instruments(s: &[u8], at: usize, m: usize, c: usize) -> Listed
         if m < x as usize {
             return Listed::refused(Refusal::BadList);
         }
-        if names(&list[..k], x) {
+        let mark = x as usize - 1;
+        if seen[mark] != 0 {
             return Listed::refused(Refusal::BadList);
         }
+        seen[mark] = 1;
         list[k] = x as u8;
         next += 6;
         k += 1;
@@ -350,8 +354,10 @@ fn batch_lines(s: &[u8], at: usize, m: usize, n: usize) -> Reading
     requires { ⌜ (at ≤ length (now s)) × (m ≤ 24) × (n ≤ 200) ⌝ }
     ensures { λ r. ⌜ r ≡ readAs (batchLines m n 2 [] (drop at (now (s .entry)))) ⌝ }
 {
-    let mut sheet = Sheet::new();
-    sheet.m = m;
+    let mut minutes = [0u16; 200];
+    let mut places = [0u8; 200];
+    let mut counts = [0u8; 200];
+    let mut lists = [0u8; 4800];
     let mut next = at;
     let mut i = 0;
     while i < n {
@@ -360,14 +366,25 @@ fn batch_lines(s: &[u8], at: usize, m: usize, n: usize) -> Reading
         let Refusal::Nothing = e else {
             return refused_at(e, b.line);
         };
+        minutes[i] = b.minutes;
+        places[i] = b.place;
+        counts[i] = b.count;
         let row = b.list;
-        sheet = sheet.appended(b.minutes, b.place, b.count, row);
+        enter_part(&mut lists, i * Sheet::INSTRUMENTS, &row, Sheet::INSTRUMENTS);
         next = b.next;
         i += 1;
     }
     if next < s.len() {
         return refused_at(Refusal::Malformed, i + 2);
     }
+    let sheet = Sheet {
+        m,
+        n,
+        minutes,
+        places,
+        counts,
+        lists,
+    };
     Reading {
         refusal: Refusal::Nothing,
         line: 0,

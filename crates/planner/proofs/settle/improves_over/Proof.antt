@@ -5,8 +5,8 @@ use mathlib.Core.Path.{sym, ap, _∙_}
 use native.Mathlib.Omega.{arith}
 use lib.Dec.{ltb}
 use Rattle.rules.specs.Fold.{_and_, at, anyTo}
-use Rattle.planner.specs.Sets.{has}
-use Rattle.planner.proofs.Loads.{at-index}
+use Rattle.arrays.specs.Sets.{has}
+use Rattle.arrays.proofs.Entries.{at-index}
 use Rattle.planner.proofs.Gains.{gains-below, gains-none}
 use borrow.Author.Needs.{needs}
 use Rattle.planner.proofs.settle.improves_over.Statement.{statement}

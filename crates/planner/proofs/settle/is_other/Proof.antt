@@ -7,9 +7,9 @@ use native.Mathlib.Omega.{arith}
 use lib.Dec.{eqb}
 use borrow.Author.Tests.{eq-eqb, ne-eqb}
 use Rattle.rules.specs.Fold.{_and_}
-use Rattle.planner.specs.Sets.{has}
+use Rattle.arrays.specs.Sets.{has}
 use Rattle.planner.specs.Settling.{other}
-use Rattle.planner.proofs.Search.{and-no-right}
+use Rattle.arrays.proofs.Search.{and-no-right}
 use Rattle.planner.proofs.Gains.{and-true}
 use borrow.Author.Needs.{needs}
 use Rattle.planner.proofs.settle.is_other.Statement.{statement}

@@ -7,7 +7,7 @@ use native.Mathlib.Numerals.{add-one}
 use native.Mathlib.Omega.{arith}
 use Rattle.rules.specs.Fold.{at, lesser, leastTo}
 use Rattle.planner.specs.Settling.{other}
-use Rattle.planner.proofs.Raising.{least-le}
+use Rattle.trials.proofs.Raising.{least-le}
 use borrow.Author.Needs.{needs}
 use Rattle.planner.proofs.settle.least_other.Statement.{statement}
 use Rattle.planner.proofs.settle.least_other.Tie as tie

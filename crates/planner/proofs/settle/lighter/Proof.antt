@@ -7,7 +7,7 @@ use native.Mathlib.Numerals.{add-one}
 use native.Mathlib.Omega.{arith}
 use borrow.Author.Tests.{not-true, not-false}
 use Rattle.rules.specs.Fold.{at, lesser}
-use Rattle.planner.proofs.Loads.{at-index}
+use Rattle.arrays.proofs.Entries.{at-index}
 use Rattle.planner.proofs.Gains.{lesser-off, lesser-new, lesser-less, lesser-stay}
 use borrow.Author.Needs.{needs}
 use Rattle.planner.proofs.settle.lighter.Statement.{statement}

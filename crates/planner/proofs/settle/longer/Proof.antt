@@ -9,7 +9,7 @@ use native.Mathlib.Omega.{arith}
 use lib.ListN.{getD}
 use borrow.Author.Tests.{leb-true, leb-false}
 use Rattle.rules.specs.Fold.{at, greater}
-use Rattle.planner.proofs.Loads.{at-index}
+use Rattle.arrays.proofs.Entries.{at-index}
 use Rattle.planner.proofs.Gains.{greater-off, greater-new, greater-stay}
 use borrow.Author.Needs.{needs}
 use Rattle.planner.proofs.settle.longer.Statement.{statement}

@@ -6,7 +6,7 @@ use native.Mathlib.Omega.{arith}
 use lib.ListN.{length, take}
 use Rattle.rules.specs.Fold.{at, sumTo}
 use Rattle.rules.specs.Instance.{Instance}
-use Rattle.planner.specs.Reads.{Reads}
+use Rattle.trials.specs.Reads.{Reads}
 use Rattle.planner.specs.Settling.{Placing}
 use Rattle.planner.proofs.Settles.{Run, run-start, run-more, run-end, squares-are, squares-small, moved-falls}
 use borrow.Author.Needs.{needs}

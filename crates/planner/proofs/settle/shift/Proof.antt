@@ -3,7 +3,7 @@
 use Prim.Native.Nat.{_-_}
 use native.Mathlib.Omega.{arith}
 use lib.ListN.{getD}
-use Rattle.planner.proofs.Shifted.{set-down}
+use Rattle.trials.proofs.Shifted.{set-down}
 use borrow.Author.Needs.{needs}
 use Rattle.planner.proofs.settle.shift.Statement.{statement}
 use Rattle.planner.proofs.settle.shift.Tie as tie

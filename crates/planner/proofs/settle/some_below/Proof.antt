@@ -10,8 +10,8 @@ use borrow.Author.Tests.{lt-ltb, le-ltb}
 use Rattle.rules.specs.Fold.{_and_, at}
 use Rattle.theory.proofs.Logic.{and-mk}
 use Rattle.theory.proofs.View.{None, none-more, none-zero, any-at}
-use Rattle.planner.specs.Sets.{has}
-use Rattle.planner.proofs.Search.{and-no-left, and-no-right, any-miss}
+use Rattle.arrays.specs.Sets.{has}
+use Rattle.arrays.proofs.Search.{and-no-left, and-no-right, any-miss}
 use borrow.Author.Needs.{needs}
 use Rattle.planner.proofs.settle.some_below.Statement.{statement}
 use Rattle.planner.proofs.settle.some_below.Tie as tie

@@ -13,24 +13,24 @@ element-write-self c = search needs
 element-write-self-2 : tie.Need-element-write-self-2
 element-write-self-2 c = search needs
 
-slice-aggregate-enter-row : tie.Need-slice-aggregate-enter-row
-slice-aggregate-enter-row c = search needs
+slice-aggregate-enter-part : tie.Need-slice-aggregate-enter-part
+slice-aggregate-enter-part c = search needs
 
-mul-enter-row : tie.Need-mul-enter-row
-mul-enter-row c = search needs
+mul-enter-part : tie.Need-mul-enter-part
+mul-enter-part c = search needs
 
-slice-aggregate-enter-row-2 : tie.Need-slice-aggregate-enter-row-2
-slice-aggregate-enter-row-2 c = search needs
+slice-aggregate-enter-part-2 : tie.Need-slice-aggregate-enter-part-2
+slice-aggregate-enter-part-2 c = search needs
 
-enter-row-requires : tie.Need-enter-row-requires
-enter-row-requires c κs =
+enter-part-requires : tie.Need-enter-part-requires
+enter-part-requires c κs =
     let a = c .before .before .before .args in
     let h : length (a .t1 .lists) ≡ 4800 = search needs in
     let r : length (a .t5) ≡ 24 = search needs in
-    (omega (arith, c .before .before .before .pre), r)
+    (omega (arith, c .before .before .before .pre), omega arith)
 
 returns : tie.Need-returns
-returns c = simp (c .before .enter-row .ensures)
+returns c = simp (c .before .enter-part .ensures)
 
 pub requalified-spec : {M : Type 1} → statement M
 requalified-spec =
@@ -38,8 +38,8 @@ requalified-spec =
     (tie.spec
     element-write-self
     element-write-self-2
-    slice-aggregate-enter-row
-    mul-enter-row
-    slice-aggregate-enter-row-2
-    enter-row-requires
+    slice-aggregate-enter-part
+    mul-enter-part
+    slice-aggregate-enter-part-2
+    enter-part-requires
     returns)

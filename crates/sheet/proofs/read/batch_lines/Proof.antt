@@ -1,44 +1,49 @@
--- The invariant: i lines are read, and their batches are in the sheet.
-use Prim.Native.Nat.{ℕ, _+_, _-_}
-use mathlib.Core.Path.{_∙_}
+-- The invariant: i lines are read, and their batches are in the arrays.
+use Prim.Native.Nat.{ℕ, _+_, _-_, _<_}
+use mathlib.Core.Path.{_≡_, sym, ap, _∙_}
 use native.Mathlib.Omega.{arith}
 use borrow.Author.Needs.{needs}
 use mathlib.Core.List.{List}
+use lib.ListN.{length}
+use Rattle.sheet.specs.declared.Refusal.the-variants.{Nothing}
 use Rattle.sheet.proofs.Given.{LineGiven, line-given, some-refusal}
-use Rattle.sheet.proofs.Sofar.{Sofar, size-now, none-yet, one-more, then-refused, left-over, all-read}
+use Rattle.sheet.proofs.Sofar.{held, Sofar, none-yet, lists-long, one-more, then-refused, left-over, all-read}
 use Rattle.sheet.proofs.read.batch_lines.Statement.{statement}
 use Rattle.sheet.proofs.read.batch_lines.Tie as tie
+use Rattle.sheet.proofs.read.batch_lines.Reads as reads
+use Rattle.sheet.proofs.read.batch_lines.Lts as lts
+use Rattle.sheet.proofs.enter_part.Reads as enter-part-reads
+use Rattle.sheet.proofs.read.batch_line.Reads as batch-line-reads
+use Rattle.sheet.proofs.read.refused_at.Reads as refused-at-reads
 
 abbrev Inv-loop : tie.InvT-loop
-Inv-loop s at m n sheet₀ next₀ i₀ sheet next i = Sofar s at m n sheet next i
+Inv-loop s at m n minutes₀ places₀ counts₀ lists₀ next₀ i₀ minutes places counts lists next i = Sofar s at m n (held m i minutes places counts lists) next i
 
 abbrev μ-loop : tie.MeasureT-loop
-μ-loop s at m n sheet₀ next₀ i₀ sheet next i = n - i
+μ-loop s at m n minutes₀ places₀ counts₀ lists₀ next₀ i₀ minutes places counts lists next i = n - i
 
 abbrev text : tie.Start Inv-loop μ-loop → List ℕ
 text c = c .args .s .now
 
 -- the line was read
-abbrev start : tie.After-enum-told Inv-loop μ-loop → tie.Start Inv-loop μ-loop
-start c = c .before .before .before .before .before .before .before
-
 given : (c : tie.After-enum-told Inv-loop μ-loop) →
-    LineGiven (text (start c)) (c .before .before .before .before .loop .next) (c .before .before .before .before .loop .inv .room) (start c .args .m) (c .before .before .batch-line .result)
+    LineGiven (text (c .before .before .before .before .before .before)) (c .before .before .before .before .loop .next) (c .before .before .before .before .loop .inv .room) (c .before .before .before .before .before .before .args .m) (c .before .before .batch-line .result)
 given c =
-    line-given (text (start c)) (c .before .before .before .before .loop .next) (c .before .before .before .before .loop .inv .room) (start c .args .m) (c .before .before .before .before .loop .i + 2) _ (start c .pre .1)
+    line-given (text (c .before .before .before .before .before .before)) (c .before .before .before .before .loop .next) (c .before .before .before .before .loop .inv .room) (c .before .before .before .before .before .before .args .m) (c .before .before .before .before .loop .i + 2) _ (c .before .before .before .before .before .before .pre .1)
     (c .before .before .batch-line .ensures) (c .enum-told .given .1)
 
-new-requires : tie.Need-new-requires Inv-loop μ-loop
-new-requires c κs = search needs
+-- a batch more has room
+room : (c : tie.After-enum-told Inv-loop μ-loop) → c .before .before .before .before .loop .i < 200
+room c = omega (arith, c .before .before .before .loop-test .taken, c .before .before .before .before .before .before .pre .2)
 
 loop-holds : tie.Need-loop-holds Inv-loop μ-loop
-loop-holds c = none-yet _ _ _ _ _ (c .new .ensures) (c .before .before .pre .0)
+loop-holds c = none-yet _ _ _ _ (c .before .pre .0)
 
 add-batch-line : tie.Need-add-batch-line Inv-loop μ-loop
-add-batch-line c = omega (arith, c .before .loop .inv .few, c .before .before .before .before .pre)
+add-batch-line c = omega (arith, c .before .loop .inv .few, c .before .before .before .pre)
 
 batch-line-requires : tie.Need-batch-line-requires Inv-loop μ-loop
-batch-line-requires c κs = (c .before .loop .inv .room, c .before .before .before .before .pre .1)
+batch-line-requires c κs = (c .before .loop .inv .room, c .before .before .before .pre .1)
 
 enum-told : tie.Need-enum-told Inv-loop μ-loop
 enum-told c = search needs
@@ -48,41 +53,68 @@ refused-at-requires c κs = search needs
 
 returns : tie.Need-returns Inv-loop μ-loop
 returns c =
-    let b : tie.Start Inv-loop μ-loop = c .before .before .before .before .before .before .before in
+    let b : tie.Start Inv-loop μ-loop = c .before .before .before .before .before .before in
     c .refused-at .ensures
     ∙ then-refused (text b) (b .args .at) (b .args .m) (b .args .n) _ _ _ (c .before .before .before .before .loop .inv) _ (c .before .before .batch-line .ensures)
     (some-refusal _ (c .before .match .keys2)) (c .before .before .before .loop-test .taken)
 
-appended-requires : tie.Need-appended-requires Inv-loop μ-loop
-appended-requires c κs = omega (arith, size-now _ _ _ _ _ _ _ (c .before .before .before .before .before .loop .inv), c .before .before .before .before .loop-test .taken, c .before .before .before .before .before .before .before .before .pre)
+mul-minutes : tie.Need-mul-minutes Inv-loop μ-loop
+mul-minutes c = omega (arith, room c)
+
+array-write-minutes : tie.Need-array-write-minutes Inv-loop μ-loop
+array-write-minutes c = room c
+
+array-write-places : tie.Need-array-write-places Inv-loop μ-loop
+array-write-places c = room c
+
+array-write-counts : tie.Need-array-write-counts Inv-loop μ-loop
+array-write-counts c = room c
+
+slice-aggregate-enter-part : tie.Need-slice-aggregate-enter-part Inv-loop μ-loop
+slice-aggregate-enter-part c = sym (lists-long _ _ _ _ _ _ _ (c .before .before .before .before .before .before .loop .inv) (c .before .before .before .before .before .before .before .before .pre .2))
+
+mul-enter-part : tie.Need-mul-enter-part Inv-loop μ-loop
+mul-enter-part c = omega (arith, room (c .before .before))
+
+slice-aggregate-enter-part-2 : tie.Need-slice-aggregate-enter-part-2 Inv-loop μ-loop
+slice-aggregate-enter-part-2 c = search needs
+
+enter-part-requires : tie.Need-enter-part-requires Inv-loop μ-loop
+enter-part-requires c κs =
+    let l : length (c .before .before .before .before .before .before .before .loop .lists) ≡ 4800 = lists-long _ _ _ _ _ _ _ (c .before .before .before .before .before .before .before .loop .inv) (c .before .before .before .before .before .before .before .before .before .pre .2) in
+    let w : length (c .before .before .before .before .before .batch-line .result .list) ≡ 24 = search needs in
+    (omega (arith, room (c .before .before .before)), omega arith)
 
 add-i : tie.Need-add-i Inv-loop μ-loop
-add-i c = omega (arith, c .before .before .before .before .before .loop-test .taken, c .before .before .before .before .before .before .before .before .before .pre)
+add-i c = omega (arith, room (c .before .before .before .before .before))
 
 loop-less : tie.Need-loop-less Inv-loop μ-loop
-loop-less c = omega (arith, c .before .before .before .before .before .loop-test .taken)
+loop-less c = omega (arith, c .before .before .before .before .before .before .before .before .loop-test .taken)
 
 loop-again : tie.Need-loop-again Inv-loop μ-loop
 loop-again c =
-    rw (c .appended .ensures)
-    (one-more _ _ _ _ _ _ _ (c .before .before .before .before .before .before .loop .inv) _ (c .before .before .before .before .before .before .loop .inv .room) (given (c .before .before)) (c .before .before .before .before .before .loop-test .taken) (c .before .before .before .before .before .before .before .before .before .pre .2))
+    rw (c .before .enter-part .ensures)
+    (one-more _ _ _ _ _ _ _ (c .before .before .before .before .before .before .before .before .before .loop .inv) _ (c .before .before .before .before .before .before .before .before .before .loop .inv .room) (given (c .before .before .before .before .before)) (c .before .before .before .before .before .before .before .before .loop-test .taken) (c .before .before .before .before .before .before .before .before .before .before .before .pre .2))
 
 add-refused-at : tie.Need-add-refused-at Inv-loop μ-loop
-add-refused-at c = omega (arith, c .before .before .loop .inv .few, c .before .before .before .before .before .pre)
+add-refused-at c = omega (arith, c .before .before .loop .inv .few, c .before .before .before .before .pre)
 
 refused-at-requires-2 : tie.Need-refused-at-requires-2 Inv-loop μ-loop
 refused-at-requires-2 c κs = search needs
 
 returns-2 : tie.Need-returns-2 Inv-loop μ-loop
 returns-2 c =
-    let b : tie.Start Inv-loop μ-loop = c .before .before .before .before .before .before in
+    let b : tie.Start Inv-loop μ-loop = c .before .before .before .before .before in
     c .refused-at2 .ensures
     ∙ left-over (text b) (b .args .at) (b .args .m) (b .args .n) _ _ _ (c .before .before .before .loop .inv) (c .before .before .loop-test .left) (c .before .if1 .taken)
 
 returns-3 : tie.Need-returns-3 Inv-loop μ-loop
 returns-3 c =
-    let b : tie.Start Inv-loop μ-loop = c .before .before .before .before .before in
-    all-read (text b) (b .args .at) (b .args .m) (b .args .n) _ _ _ (c .before .before .loop .inv) (c .before .loop-test .left) (c .if1 .left)
+    let b : tie.Start Inv-loop μ-loop = c .before .before .before .before in
+    let e : b .args .n ≡ c .before .before .loop .i = omega (arith, c .before .before .loop .inv .few, c .before .loop-test .left) in
+    let l = c .before .before .loop in
+    ap (λ (k : ℕ). record { refusal = Nothing; line = 0; sheet = held (b .args .m) k (l .minutes) (l .places) (l .counts) (l .lists) }) e
+    ∙ all-read (text b) (b .args .at) (b .args .m) (b .args .n) _ _ _ (l .inv) (c .before .loop-test .left) (c .if1 .left)
 
 pub batch-lines-spec : {M : Type 1} → statement M
 batch-lines-spec =
@@ -90,14 +122,20 @@ batch-lines-spec =
     (tie.spec
     Inv-loop
     μ-loop
-    new-requires
     loop-holds
     add-batch-line
     batch-line-requires
     enum-told
     refused-at-requires
     returns
-    appended-requires
+    mul-minutes
+    array-write-minutes
+    array-write-places
+    array-write-counts
+    slice-aggregate-enter-part
+    mul-enter-part
+    slice-aggregate-enter-part-2
+    enter-part-requires
     add-i
     loop-less
     loop-again

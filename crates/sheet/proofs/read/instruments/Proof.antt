@@ -1,22 +1,27 @@
--- The invariant: k of the c instruments are in the row, and what is left goes on from them as the rules do.
+-- The invariant: k of the c instruments are in the row and marked, and what is left goes on from them as the rules do.
 use Prim.Native.Nat.{ℕ, _+_, _-_, _≤_, _<_}
-use mathlib.Core.Path.{_≡_, refl, sym, _∙_}
+use mathlib.Core.Path.{_≡_, refl, sym, ap, _∙_}
+use mathlib.Core.Bool.{true, false}
 use mathlib.Core.List.{List, []}
 use native.Mathlib.Omega.{arith}
 use borrow.Author.Needs.{needs}
-use lib.ListN.{length, take, drop}
+use lib.ListN.{length, getD, set, take, drop}
+use Rattle.rules.specs.Fold.{mem}
 use Rattle.rules.specs.Read.{gives, numberAt, instrumentsAt}
-use Rattle.sheet.proofs.Lines.{number-there, number-missing, number-room, next-at, Row, row-front, row-padded, row-more, row-take, list-missing, list-low, list-high, list-again, list-more, list-start, list-done}
+use Rattle.sheet.proofs.Lines.{number-there, number-missing, number-room, next-at, Row, row-padded, row-more, row-take, list-missing, list-low, list-high, list-again, list-more, list-start, list-done}
+use Rattle.sheet.specs.View.{marksOf}
+use Rattle.sheet.proofs.Marking.{marks-none, marks-more, marked-there, unmarked-not}
 use Rattle.sheet.proofs.read.instruments.Statement.{statement}
 use Rattle.sheet.proofs.read.instruments.Tie as tie
 
 abbrev Inv-loop : tie.InvT-loop
-Inv-loop s at m c list₀ k₀ next₀ list k next =
+Inv-loop s at m c list₀ seen₀ k₀ next₀ list seen k next =
     (k ≤ c) × (next ≤ length s) × Row k list
     × (instrumentsAt m (c - k) (take k list) (drop next s) ≡ instrumentsAt m c [] (drop at s))
+    × (seen ≡ marksOf (take k list))
 
 abbrev μ-loop : tie.MeasureT-loop
-μ-loop s at m c list₀ k₀ next₀ list k next = c - k
+μ-loop s at m c list₀ seen₀ k₀ next₀ list seen k next = c - k
 
 -- the bytes
 abbrev text : tie.Start Inv-loop μ-loop → List ℕ
@@ -34,7 +39,7 @@ room : (c : tie.After-known-told Inv-loop μ-loop) → c .before .before .before
 room c = number-room (text (start c)) (c .before .before .before .before .before .before .loop .next) _ (c .before .before .before .field-at .ensures) _ (c .before .x .given .1) (c .before .before .before .before .before .before .loop .inv .1)
 
 loop-holds : tie.Need-loop-holds Inv-loop μ-loop
-loop-holds c = (omega arith, omega arith, record { size = refl; rest = refl }, list-start _ _ _ _)
+loop-holds c = (omega arith, omega arith, record { size = refl; rest = refl }, list-start _ _ _ _, sym marks-none)
 
 sub-field-at : tie.Need-sub-field-at Inv-loop μ-loop
 sub-field-at c = search needs
@@ -85,35 +90,41 @@ returns-3 c =
     rw (← c .before .before .before .before .before .before .before .before .before .loop .inv .3, list-high _ _ _ _ _ (c .before .before .before .before .before .before .before .before .loop-test .taken) _ _ (number (c .before .before .before)) (c .before .before .if1 .left) (c .before .if2 .taken))
     (c .refused3 .ensures)
 
-array-share-prefix-list : tie.Need-array-share-prefix-list Inv-loop μ-loop
-array-share-prefix-list c = search needs
+cast-mark : tie.Need-cast-mark Inv-loop μ-loop
+cast-mark c = search needs
 
-slice-aggregate-names : tie.Need-slice-aggregate-names Inv-loop μ-loop
-slice-aggregate-names c = sym (row-front _ _ (c .before .before .before .before .before .before .before .before .before .loop .inv .2) (omega arith))
+sub-mark : tie.Need-sub-mark Inv-loop μ-loop
+sub-mark c = search needs
 
-names-requires : tie.Need-names-requires Inv-loop μ-loop
-names-requires c κs = search needs
+array-read-if3 : tie.Need-array-read-if3 Inv-loop μ-loop
+array-read-if3 c = omega (arith, c .if2 .left, c .before .before .before .before .before .before .before .before .before .before .pre)
 
 refused-requires-4 : tie.Need-refused-requires-4 Inv-loop μ-loop
 refused-requires-4 c κs = search needs
 
 returns-4 : tie.Need-returns-4 Inv-loop μ-loop
 returns-4 c =
+    let l : List ℕ = take (c .before .before .before .before .before .before .before .before .before .before .loop .k) (c .before .before .before .before .before .before .before .before .before .before .loop .list) in
+    let x : ℕ = c .before .before .before .before .before .x .given .0 .0 in
+    let e : getD (c .before .before .before .before .before .before .before .before .before .before .loop .seen) (x - 1) 0 ≡ getD (marksOf l) (x - 1) 0 = ap (λ (r : List ℕ). getD r (x - 1) 0) (c .before .before .before .before .before .before .before .before .before .before .loop .inv .4) in
+    let d : mem x l ≡ true = marked-there l x (c .before .before .before .if1 .left) (omega (arith, c .before .before .if2 .left, c .before .before .before .before .before .before .before .before .before .before .before .before .pre)) (λ z. c .before .if3 .taken (e ∙ z)) in
     rw (
-      ← c .before .before .before .before .before .before .before .before .before .before .before .before .loop .inv .3,
-      list-again _ _ _ _ _ (c .before .before .before .before .before .before .before .before .before .before .before .loop-test .taken) _ _ (number (c .before .before .before .before .before .before)) (c .before .before .before .before .before .if1 .left) (c .before .before .before .before .if2 .left)
-          (sym (c .before .before .names .ensures) ∙ c .before .if3 .taken),
+      ← c .before .before .before .before .before .before .before .before .before .before .loop .inv .3,
+      list-again _ _ _ _ _ (c .before .before .before .before .before .before .before .before .before .loop-test .taken) _ _ (number (c .before .before .before .before)) (c .before .before .before .if1 .left) (c .before .before .if2 .left) d,
     )
     (c .refused4 .ensures)
 
+array-write-seen : tie.Need-array-write-seen Inv-loop μ-loop
+array-write-seen c = omega (arith, c .before .if2 .left, c .before .before .before .before .before .before .before .before .before .before .before .pre)
+
 cast-list : tie.Need-cast-list Inv-loop μ-loop
-cast-list c = omega (arith, c .before .before .before .if2 .left, c .before .before .before .before .before .before .before .before .before .before .before .before .before .pre)
+cast-list c = omega (arith, c .before .if2 .left, c .before .before .before .before .before .before .before .before .before .before .before .pre)
 
 array-write-list : tie.Need-array-write-list Inv-loop μ-loop
 array-write-list c = search needs
 
 add-next : tie.Need-add-next Inv-loop μ-loop
-add-next c = omega (arith, room (c .before .before .before .before .before))
+add-next c = omega (arith, room (c .before .before .before))
 
 add-k : tie.Need-add-k Inv-loop μ-loop
 add-k c = search needs
@@ -123,16 +134,21 @@ loop-less c = search needs
 
 loop-again : tie.Need-loop-again Inv-loop μ-loop
 loop-again c =
-    let k : ℕ = c .before .before .before .before .before .before .before .before .before .before .before .loop .k in
-    let l : List ℕ = c .before .before .before .before .before .before .before .before .before .before .before .loop .list in
-    let t : k < c .before .before .before .before .before .before .before .before .before .before .before .before .before .args .c = c .before .before .before .before .before .before .before .before .before .before .loop-test .taken in
-    let h : k < 24 = omega (arith, c .before .before .before .before .before .before .before .before .before .before .before .before .before .pre) in (
+    let k : ℕ = c .before .before .before .before .before .before .before .before .before .loop .k in
+    let l : List ℕ = c .before .before .before .before .before .before .before .before .before .loop .list in
+    let x : ℕ = c .before .before .before .before .x .given .0 .0 in
+    let t : k < c .before .before .before .before .before .before .before .before .before .before .before .args .c = c .before .before .before .before .before .before .before .before .loop-test .taken in
+    let h : k < 24 = omega (arith, c .before .before .before .before .before .before .before .before .before .before .before .pre) in
+    let u : x ≤ 24 = omega (arith, c .before .if2 .left, c .before .before .before .before .before .before .before .before .before .before .before .pre) in
+    let e : getD (c .before .before .before .before .before .before .before .before .before .loop .seen) (x - 1) 0 ≡ getD (marksOf (take k l)) (x - 1) 0 = ap (λ (r : List ℕ). getD r (x - 1) 0) (c .before .before .before .before .before .before .before .before .before .loop .inv .4) in
+    let d : mem x (take k l) ≡ false = unmarked-not (take k l) x (c .before .before .if1 .left) u (sym e ∙ c .if3 .left) in (
       omega arith,
-      room (c .before .before .before .before .before),
-      row-more _ _ _ (c .before .before .before .before .before .before .before .before .before .before .before .loop .inv .2) h,
-      rw (row-take k l (c .before .before .before .before .before .before .x .given .0 .0) (c .before .before .before .before .before .before .before .before .before .before .before .loop .inv .2) h)
-          (sym (list-more _ _ _ _ _ t _ _ (number (c .before .before .before .before .before)) (c .before .before .before .before .if1 .left) (c .before .before .before .if2 .left) (sym (c .before .names .ensures) ∙ c .if3 .left))
-          ∙ c .before .before .before .before .before .before .before .before .before .before .before .loop .inv .3),
+      room (c .before .before .before),
+      row-more _ _ _ (c .before .before .before .before .before .before .before .before .before .loop .inv .2) h,
+      rw (row-take k l x (c .before .before .before .before .before .before .before .before .before .loop .inv .2) h)
+          (sym (list-more _ _ _ _ _ t _ _ (number (c .before .before .before)) (c .before .before .if1 .left) (c .before .if2 .left) d) ∙ c .before .before .before .before .before .before .before .before .before .loop .inv .3),
+      rw (row-take k l x (c .before .before .before .before .before .before .before .before .before .loop .inv .2) h)
+          (ap (λ (r : List ℕ). set r (x - 1) 1) (c .before .before .before .before .before .before .before .before .before .loop .inv .4) ∙ sym (marks-more (take k l) x (c .before .before .if1 .left) u)),
     )
 
 returns-5 : tie.Need-returns-5 Inv-loop μ-loop
@@ -167,11 +183,12 @@ instruments-spec =
     cast-if2
     refused-requires-3
     returns-3
-    array-share-prefix-list
-    slice-aggregate-names
-    names-requires
+    cast-mark
+    sub-mark
+    array-read-if3
     refused-requires-4
     returns-4
+    array-write-seen
     cast-list
     array-write-list
     add-next

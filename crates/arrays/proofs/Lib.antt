@@ -1,0 +1,9 @@
+pub mod Bits
+pub mod Entries
+pub mod Filling
+pub mod Floor
+pub mod Levels
+pub mod Loads
+pub mod Masks
+pub mod Search
+pub mod Words

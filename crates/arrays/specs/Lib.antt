@@ -1,0 +1,3 @@
+pub mod Floor
+pub mod Jobs
+pub mod Sets

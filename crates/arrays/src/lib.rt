@@ -1,0 +1,4 @@
+// Searches over lent arrays, and sets of machines in words: the planner's inner loops.
+pub mod scan;
+pub mod sets;
+pub mod setup;

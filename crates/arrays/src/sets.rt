@@ -1,0 +1,98 @@
+// Sets of machines in a word: machine i is bit i - 1. And the levels: for each height, the machines that stand there.
+ghost use mathlib.Core.Path.{_≡_};
+ghost use mathlib.Core.Bool.{not};
+ghost use mathlib.Core.Logic.{_≢_};
+ghost use Prim.Native.Nat.{suc, _+_, _-_, _<_, _≤_, _^_};
+ghost use lib.ListN.{length, getD};
+ghost use lib.Dec.{leb, eqb};
+ghost use Rattle.rules.specs.Fold.{_and_, _or_, firstTo};
+ghost use Rattle.arrays.specs.Sets.{has, SetOf, Leveled, Reached, LowestIn, Lifted};
+
+// The lowest machine of a set, 0 where it is empty.
+pub fn lowest(x: u32) -> usize
+    requires { ⌜ x < 2 ^ 24 ⌝ }
+    ensures { λ r. ⌜ r ≡ firstTo 24 (λ i. has x i) ⌝ }
+{
+    if x == 0 {
+        return 0;
+    }
+    u32::trailing_zeros(x) as usize + 1
+}
+
+// The set `x` and machine `i`.
+pub fn with(x: u32, i: usize) -> u32
+    requires { ⌜ (x < 2 ^ 24) × (0 < i) × (i ≤ 24) ⌝ }
+    ensures { λ r. ⌜ SetOf (λ j. eqb j i or has x j) r ⌝ }
+{
+    1 << (i - 1) | x
+}
+
+// The set `x` but for machine `i`.
+pub fn without(x: u32, i: usize) -> u32
+    requires { ⌜ (x < 2 ^ 24) × (0 < i) × (i ≤ 24) ⌝ }
+    ensures { λ r. ⌜ SetOf (λ j. not (eqb j i) and has x j) r ⌝ }
+{
+    !(1 << (i - 1)) & x
+}
+
+// The machines in both sets.
+pub fn common(x: u32, y: u32) -> u32
+    requires { ⌜ (x < 2 ^ 24) × (y < 2 ^ 24) ⌝ }
+    ensures { λ r. ⌜ SetOf (λ j. has x j and has y j) r ⌝ }
+{
+    x & y
+}
+
+// The machines 1 to `m` that a job may run on, one byte a machine from `base` on.
+pub fn mask_at(eligible: &[u8], base: usize, m: usize) -> u32
+    requires { ⌜ (m ≤ 24) × (base + m ≤ length (now eligible)) ⌝ }
+    ensures { λ r. ⌜ SetOf (λ j. leb j m and eqb (getD (now (eligible .entry)) (base + (j - 1)) 0) 1) r ⌝ }
+{
+    let mut x: u32 = 0;
+    let mut j: usize = 0;
+    while j < m {
+        if eligible[base + j] == 1 {
+            x = with(x, j + 1);
+        }
+        j += 1;
+    }
+    x
+}
+
+// A machine and its height.
+pub struct Least {
+    pub machine: usize,
+    pub height: usize,
+}
+
+// Of the machines of `mask`, the lowest of least height, where none is below `from`.
+pub fn least_for(mask: u32, levels: &[u32], from: usize) -> Least
+    requires { ⌜ (mask < 2 ^ 24) × Leveled (now levels) × Reached mask (now levels) from ⌝ }
+    ensures { λ r. ⌜ LowestIn mask (now (levels .entry)) from (r .machine) (r .height) ⌝ }
+{
+    let mut h = from;
+    while mask & levels[h] == 0 {
+        h += 1;
+    }
+    Least {
+        machine: lowest(mask & levels[h]),
+        height: h,
+    }
+}
+
+// Machine `i` goes from level `h` to level `g`.
+pub fn lift_level(levels: &mut [u32], i: usize, h: usize, g: usize)
+    requires { ⌜ Leveled (now levels) × (0 < i) × (i ≤ 24) × (h < 64) × (g < 64) × (h ≢ g) ⌝ }
+    ensures { λ _. ⌜ Lifted (now (levels .entry)) (now (levels .exit)) i h g ⌝ }
+{
+    levels[h] = without(levels[h], i);
+    levels[g] = with(levels[g], i);
+}
+
+// The machine at index i is in the set.
+pub fn is_in(x: u32, i: usize) -> bool
+    requires { ⌜ i < 24 ⌝ }
+    ensures { λ r. ⌜ r ≡ has x (suc i) ⌝ }
+{
+    (x >> i) % 2 == 1
+}

@@ -1,0 +1,5 @@
+pub mod Pasted
+pub mod Columns
+pub mod Fields
+pub mod Lines
+pub mod Growing

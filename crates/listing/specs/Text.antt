@@ -1,0 +1,42 @@
+-- The listing's texts over plain numbers and lists, as the code has them.
+-- Assumes nothing.
+use Prim.Native.Nat.{ℕ, zero, suc, _+_, _%_}
+use mathlib.Core.List.{List, [], _∷_, _++_}
+use lib.ListN.{length, take, drop}
+use lib.Dec.{leb, eqb}
+use Rattle.rules.specs.Fold.{_and_, pick, at}
+use Rattle.rules.specs.Render.{line}
+use Rattle.rules.specs.Plan.{Plan}
+use Rattle.rules.specs.Listing.{firstLine}
+
+-- the column before the last w of a number, where rest is what stands before those
+abbrev pub column : ℕ → ℕ → ℕ
+column w rest = pick (leb 1 w and eqb rest 0) 32 (48 + rest % 10)
+
+-- a plan's numbers, with no group and no places
+abbrev pub figures : ℕ → ℕ → ℕ → ℕ → ℕ → ℕ → Plan
+figures makespan bound level lifts pushes moves = record {
+  makespan = makespan;
+  lowerBound = bound;
+  level = level;
+  lifts = lifts;
+  pushes = pushes;
+  moves = moves;
+  group = [];
+  assignment = [];
+}
+
+-- a line for each of the first n batches: number, place, length
+unfoldable pub rowsTo : List ℕ → List ℕ → ℕ → List ℕ
+rowsTo minutes places zero = []
+rowsTo minutes places (suc b) =
+    rowsTo minutes places b ++ line (suc b ∷ at places (suc b) ∷ at minutes (suc b) ∷ [])
+
+-- the whole listing: the plan's numbers, the first `size` entries of the group, the first n batches
+unfoldable pub listingText : Plan → ℕ → List ℕ → ℕ → List ℕ → List ℕ → List ℕ
+listingText p size group n minutes places =
+    firstLine p ++ line (size ∷ take size group) ++ rowsTo minutes places n
+
+-- a buffer with a text at its front: what lies past the text stays
+abbrev pub atFront : List ℕ → List ℕ → List ℕ
+atFront text buffer = text ++ drop (length text) buffer

@@ -1,0 +1,2 @@
+// The listing as text in a lent buffer.
+pub mod text;

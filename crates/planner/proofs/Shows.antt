@@ -1,0 +1,99 @@
+-- A trial of a sound sheet: what it starts from, and its answer as the rules give it.
+-- Assumes nothing.
+use Prim.Native.Nat.{ℕ, _+_, _-_, _*_, _≤_, _<_, _^_}
+use mathlib.Core.Path.{_≡_, refl, sym, ap, _∙_}
+use mathlib.Core.Bool.{Bool, true, false}
+use mathlib.Core.List.{List, _++_, map}
+use native.Mathlib.Omega.{arith}
+use lib.ListN.{length, take, replicate, length-map}
+use lib.Dec.{leb, eqb}
+use borrow.Author.Tests.{le-leb, lt-leb}
+use Rattle.rules.specs.Fold.{pick, at, sumTo, maxTo, thoseTo}
+use Rattle.rules.specs.Sheet.{Book}
+use Rattle.rules.specs.Instance.{Instance, Job, n, instance, places, minutesOf}
+use Rattle.rules.specs.Load.{load, longest, total}
+use Rattle.rules.specs.Group.{trial, passed, failed}
+use Rattle.rules.specs.Run.{answer}
+use Rattle.theory.proofs.Valid.{Permitted}
+use Rattle.theory.proofs.Fold.{sumTo-ext, sumTo-bound}
+use Rattle.theory.proofs.Makespan.{max-le}
+use Rattle.sheet.specs.declared.Sheet.{Sheet}
+use Rattle.sheet.specs.declared.Refusal.the-variants.{Nothing, LevelAbove}
+use Rattle.sheet.specs.Represent.{padded, bookOf, Sound}
+use Rattle.sheet.proofs.Padded.{length-padded}
+use Rattle.sheet.proofs.Shown.{view-batches, view-short, minutes-at}
+use Rattle.arrays.specs.Sets.{has, SetOf}
+use Rattle.trials.specs.Reads.{Reads}
+use Rattle.trials.specs.Attempt.{Standing, Tries}
+use Rattle.trials.specs.Grouping.{Holds}
+use Rattle.trials.proofs.Groups.{members-group}
+use Rattle.planner.specs.declared.Tried.{Tried}
+use Rattle.planner.specs.Calls.{trialOf, refusedTrial, triedAs}
+use Rattle.planner.proofs.Reviewing.{max-agree, added-loads}
+
+-- ---- minutes in all, and the longest
+
+module _ (I : Instance) {c : ℕ} {lengths : List ℕ} (f : c ≡ n I) (g : lengths ≡ padded 200 (map (λ (j : Job). j .minutes) (I .jobs))) where
+  one : (b : ℕ) → at lengths b ≡ minutesOf I b
+  one b = ap (λ (l : List ℕ). at l b) g ∙ minutes-at I b
+
+  pub total-is : sumTo c (λ b. at lengths b) ≡ total I
+  unfolding total
+  total-is = sumTo-ext c _ _ (λ b p q. one b) ∙ ap (λ (k : ℕ). sumTo k (λ b. minutesOf I b)) f
+
+  pub longest-is : maxTo c (λ b. at lengths b) ≡ longest I
+  unfolding longest
+  longest-is = max-agree c _ _ (λ b p q. one b) ∙ ap (λ (k : ℕ). maxTo k (λ b. minutesOf I b)) f
+
+module _ (s : Sheet) (v : Sound s) where
+  pub minutes-long : {lengths : List ℕ} → lengths ≡ padded 200 (map (λ (j : Job). j .minutes) (instance (bookOf s) .jobs)) → length lengths ≡ 200
+  minutes-long g =
+      let l = map (λ (j : Job). j .minutes) (instance (bookOf s) .jobs) in
+      let z : length l ≡ n (instance (bookOf s)) = length-map (instance (bookOf s) .jobs) (λ (j : Job). j .minutes) in
+      ap length g ∙ length-padded 200 l (omega (arith, view-batches s v))
+
+  pub total-few : total (instance (bookOf s)) ≤ 288000
+  unfolding total
+  total-few =
+      let h = sumTo-bound (n (instance (bookOf s))) (λ b. minutesOf (instance (bookOf s)) b) 1440 (λ b p q. view-short s v b) in
+      omega (arith, view-batches s v)
+
+  pub longest-few : longest (instance (bookOf s)) ≤ 1440
+  unfolding longest
+  longest-few = max-le _ _ 1440 (λ b p q. view-short s v b)
+
+-- ---- the start
+
+pub stands : {I : Instance} {m c : ℕ} {lengths sets x loads : List ℕ} → Reads I m c lengths sets → Permitted I (take c x)
+    → ((i : ℕ) → 0 < i → i ≤ m → at loads i ≡ sumTo c (λ b. pick (eqb (at x b) i) (at lengths b) 0)) → Standing I m c lengths sets x loads
+stands {I} {m} {c} {lengths} {sets} {x} {loads} r w h =
+    record { reads = r; permitted = w; kept = λ i l t. added-loads r x loads h i l (omega (arith, r .machines)) }
+
+-- ---- the answer
+
+pub trial-refused : (k : Book) (a : ℕ) → total (instance k) < a → refusedTrial LevelAbove ≡ trialOf k a
+unfolding trialOf answer
+trial-refused k a h = rw (lt-leb a (total (instance k)) h) refl
+
+module _ (k : Book) (a : ℕ) (h : a ≤ total (instance k)) where
+  tried-is : {t : _} → trial (instance k) (places k) a ≡ t → triedAs t ≡ trialOf k a
+  unfolding trialOf answer
+  tried-is e = rw (le-leb a (total (instance k)) h, e) refl
+
+  module _ {c : ℕ} {w y loads : List ℕ} {pass : Bool} {group lifts pushes : ℕ} (e : w ≡ places k)
+      (t : Tries (instance k) w a c y loads pass group lifts pushes) where
+    pub trial-passed : pass ≡ true → (out : List ℕ) → out ≡ padded 200 (take c y)
+        → record { refusal = Nothing; passed = true; lifts = lifts; pushes = pushes; places = out; size = 0; group = replicate 24 0 } ≡ trialOf k a
+    trial-passed b out o =
+        ap (λ (p : List ℕ). record { refusal = Nothing; passed = true; lifts = lifts; pushes = pushes; places = p; size = 0; group = replicate 24 0 }) o
+        ∙ tried-is (ap (λ (p : List ℕ). trial (instance k) p a) (sym e) ∙ t .passes b)
+
+    pub trial-failed : pass ≡ false → (m : ℕ) → instance k .m ≡ m → m ≤ 24 → (list : List ℕ) (size : ℕ) → Holds (thoseTo m (λ i. has group i)) list size
+        → record { refusal = Nothing; passed = false; lifts = lifts; pushes = pushes; places = replicate 200 0; size = size; group = list } ≡ trialOf k a
+    trial-failed b m q u list size o =
+        let g = members-group m group q u (t .isGroup) (t .isSet b) in
+        let front : list ≡ padded 24 (t .machines) = o .padded ∙ (rw (g, o .count, g) refl) in
+        let count : size ≡ length (t .machines) = o .count ∙ ap length g in
+        ap (λ (p : List ℕ). record { refusal = Nothing; passed = false; lifts = lifts; pushes = pushes; places = replicate 200 0; size = size; group = p }) front
+        ∙ ap (λ (z : ℕ). record { refusal = Nothing; passed = false; lifts = lifts; pushes = pushes; places = replicate 200 0; size = z; group = padded 24 (t .machines) }) count
+        ∙ tried-is (ap (λ (p : List ℕ). trial (instance k) p a) (sym e) ∙ t .fails b)

@@ -1,0 +1,139 @@
+-- The marks of all batches, made row by row.
+-- Assumes nothing.
+use Prim.Native.Nat.{ℕ, zero, suc, _+_, _-_, _*_, _≤_, _<_}
+use mathlib.Core.Path.{_≡_, refl, sym, ap, _∙_}
+use mathlib.Core.Bool.{true}
+use mathlib.Core.List.{List, [], _∷_, _++_, append-nil, append-assoc}
+use native.Mathlib.Omega.{arith}
+use native.Mathlib.Numerals.{add-one}
+use lib.ListN.{length, getD, take, drop, replicate, length-append, length-replicate, length-drop, List·getD-map}
+use lib.Seq.{paste, length-paste, take-suc, take-all, getD-take, getD-drop, length-take-le}
+use lib.Dec.{leb}
+use borrow.Author.Tests.{leb-true}
+use Rattle.rules.specs.Sheet.{Batch, noBatchHere, isInstrument, goodList, goodBatch}
+use Rattle.rules.specs.Instance.{Job, noJob, n, jobOf, instance}
+use Rattle.theory.proofs.Logic.{and-left, and-right}
+use Rattle.theory.proofs.Member.{every-at}
+use Rattle.theory.proofs.Sound.{sound-is, good-is, jobs-count}
+use Rattle.sheet.specs.declared.Sheet.{Sheet}
+use Rattle.sheet.specs.Represent.{padded, batchAt, bookOf, Sound}
+use Rattle.sheet.specs.View.{marksOf, markRows, marks}
+use Rattle.sheet.proofs.Padded.{padded-room, paste-at, paste-append}
+use Rattle.sheet.proofs.Held.{book-m, book-size, book-at, good-entry, few-instruments, short-list}
+use Rattle.sheet.proofs.Marking.{length-marks}
+
+-- ---- rows
+
+length-mark-rows : (js : List Job) → length (markRows js) ≡ length js * 24
+unfolding markRows
+length-mark-rows [] = refl
+length-mark-rows (j ∷ js) =
+    omega (arith, length-append (marksOf (j .list)) (markRows js), length-marks (j .list), length-mark-rows js)
+
+mark-rows-last : (js : List Job) (j : Job) → markRows (js ++ (j ∷ [])) ≡ markRows js ++ marksOf (j .list)
+unfolding markRows
+mark-rows-last [] j = append-nil (marksOf (j .list))
+mark-rows-last (i ∷ js) j =
+    ap (λ (r : List ℕ). marksOf (i .list) ++ r) (mark-rows-last js j)
+    ∙ sym (append-assoc (marksOf (i .list)) (markRows js) (marksOf (j .list)))
+
+-- the rows of the first i lists
+abbrev pub rowsTo : List ℕ → List ℕ → ℕ → List ℕ
+rowsTo counts lists zero = []
+rowsTo counts lists (suc i) = rowsTo counts lists i ++ marksOf (take (getD counts i 0) (drop (i * 24) lists))
+
+length-rows-to : (counts lists : List ℕ) (i : ℕ) → length (rowsTo counts lists i) ≡ i * 24
+length-rows-to counts lists zero = refl
+length-rows-to counts lists (suc i) =
+    let l : List ℕ = take (getD counts i 0) (drop (i * 24) lists) in
+    omega (arith, length-append (rowsTo counts lists i) (marksOf l), length-marks l, length-rows-to counts lists i)
+
+job-list : (s : Sheet) (i : ℕ) → i < s .n → getD (instance (bookOf s) .jobs) i noJob .list ≡ batchAt s i .list
+job-list s i h =
+    ap (λ (j : Job). j .list) (List·getD-map jobOf (bookOf s .batches) i noBatchHere)
+    ∙ ap (λ (b : Batch). b .list) (book-at s i h)
+
+rows-are : (s : Sheet) (i : ℕ) → i ≤ s .n → rowsTo (s .counts) (s .lists) i ≡ markRows (take i (instance (bookOf s) .jobs))
+unfolding markRows
+rows-are s zero h = refl
+rows-are s (suc i) h =
+    let js = instance (bookOf s) .jobs in
+    let k : i < length js = omega (arith, jobs-count (bookOf s), book-size s) in
+    ap (λ (r : List ℕ). r ++ marksOf (batchAt s i .list)) (rows-are s i (omega arith))
+    ∙ ap (λ (l : List ℕ). markRows (take i js) ++ marksOf l) (sym (job-list s i h))
+    ∙ sym (ap markRows (take-suc js i noJob k) ∙ mark-rows-last (take i js) (getD js i noJob))
+
+-- ---- the loop
+
+-- a holds the rows of the first i lists
+pub record Rows (counts lists : List ℕ) (n : ℕ) (a : List ℕ) (i : ℕ) : Type 0 where
+  pub few : i ≤ n
+  pub room : n ≤ 200
+  pub long : length a ≡ 4800
+  pub same : a ≡ padded 4800 (rowsTo counts lists i)
+
+pub rows-start : {counts lists : List ℕ} {n : ℕ} → n ≤ 200 → Rows counts lists n (replicate 4800 0) 0
+rows-start h = record { few = omega arith; room = h; long = length-replicate {A = ℕ} 4800 0; same = refl }
+
+module _ {counts lists : List ℕ} {n : ℕ} {a : List ℕ} {i : ℕ} (e : Rows counts lists n a i) where
+  -- the next row is all 0
+  pub rows-next : i < n → paste a (i * 24) (replicate 24 0) 24 ≡ a
+  rows-next h =
+      let r = rowsTo counts lists i in
+      let l = length-rows-to counts lists i in
+      let z : List ℕ = replicate (4800 - (length r + 24)) 0 in
+      let q : a ≡ r ++ (replicate 24 0 ++ z) = e .same ∙ padded-room 4800 24 r (omega arith) in
+      ap (λ (d : List ℕ). paste d (i * 24) (replicate 24 0) 24) q
+      ∙ paste-at r (replicate 24 0) z (replicate 24 0) (i * 24) 24 l (length-replicate {A = ℕ} 24 0) (length-replicate {A = ℕ} 24 0)
+      ∙ sym q
+
+  pub rows-step : (b : List ℕ) → i < n →
+      b ≡ paste a (i * 24) (marksOf (take (getD counts i 0) (drop (i * 24) lists))) 24 → Rows counts lists n b (i + 1)
+  rows-step b h u =
+      let r = rowsTo counts lists i in
+      let l : List ℕ = take (getD counts i 0) (drop (i * 24) lists) in
+      record {
+        few = omega arith;
+        room = e .room;
+        long = ap length u ∙ length-paste a (i * 24) (marksOf l) 24 (omega arith) (omega (arith, length-marks l)) ∙ e .long;
+        same =
+            u
+            ∙ ap (λ (d : List ℕ). paste d (i * 24) (marksOf l) 24) (e .same)
+            ∙ paste-append 4800 r (marksOf l) (i * 24) 24 (length-rows-to counts lists i) (length-marks l) (omega arith)
+            ∙ ap (λ (j : ℕ). padded 4800 (rowsTo counts lists j)) (sym (add-one i));
+      }
+
+pub rows-end : (s : Sheet) (a : List ℕ) (i : ℕ) → Rows (s .counts) (s .lists) (s .n) a i → s .n ≤ i →
+    a ≡ marks (instance (bookOf s))
+unfolding marks
+rows-end s a i e h =
+    let js = instance (bookOf s) .jobs in
+    let z : i ≡ s .n = omega (arith, e .few) in
+    e .same ∙ ap (padded 4800)
+    (rows-are s i (e .few) ∙ ap markRows (take-all i js (omega (arith, jobs-count (bookOf s), book-size s))))
+
+-- ---- what a list names
+
+good-first : (m : ℕ) (l : List ℕ) (i : ℕ) → goodList m l ≡ true → i < length l → 0 < getD l i 0
+unfolding goodList isInstrument
+good-first m l i e h =
+    let r = and-right (leb (length l) m) _ (and-right (leb 1 (length l)) _ e) in
+    leb-true _ _ (and-left _ _ (every-at (isInstrument m) l 0 i (and-left _ _ r) h))
+
+module _ (s : Sheet) (v : Sound s) where
+  pub entry-range : (i k : ℕ) → i < s .n → k < getD (s .counts) i 0 → i * 24 + 24 ≤ length (s .lists) →
+      (0 < getD (s .lists) (i * 24 + k) 0) × (getD (s .lists) (i * 24 + k) 0 ≤ 24)
+  entry-range i k h g w =
+      let c = getD (s .counts) i 0 in
+      let l : List ℕ = take c (drop (i * 24) (s .lists)) in
+      let u = sound-is (bookOf s) (v .book) in
+      let b = good-is (bookOf s .m) _
+      (every-at (goodBatch (bookOf s .m)) (bookOf s .batches) noBatchHere i (u .batches) (omega (arith, book-size s))) in
+      let q : goodList (bookOf s .m) l ≡ true = ap (λ (x : Batch). goodList (bookOf s .m) (x .list)) (sym (book-at s i h)) ∙ b .list in
+      let d : c ≤ length (drop (i * 24) (s .lists)) = omega (arith, length-drop (i * 24) (s .lists), short-list s v i h) in
+      let f : k < length l = omega (arith, length-take-le c (drop (i * 24) (s .lists)) d) in
+      let e : getD l k 0 ≡ getD (s .lists) (i * 24 + k) 0 =
+      getD-take c (drop (i * 24) (s .lists)) k 0 g ∙ getD-drop (i * 24) (s .lists) k 0 in (
+        omega (arith, good-first (bookOf s .m) l k q f),
+        omega (arith, good-entry (bookOf s .m) l k q f, few-instruments s v, book-m s),
+      )

@@ -1,0 +1,11 @@
+-- `Sheet::places` meets its contract.
+-- Assumes nothing.
+use Rattle.sheet.proofs.Shown.{view-places}
+use Rattle.sheet.proofs.Sheet.places.Statement.{statement}
+use Rattle.sheet.proofs.Sheet.places.Tie as tie
+
+returns : tie.Need-returns
+returns c = view-places (c .before .args .self) (c .before .pre)
+
+pub places-spec : {M : Type 1} → statement M
+places-spec = tie.close (tie.spec returns)

@@ -1,0 +1,20 @@
+-- Who may run what, as entries of 1 and 0: a row of 24 for each job.
+-- Assumes nothing.
+use Prim.Native.Nat.{ℕ}
+use mathlib.Core.List.{List, [], _∷_, _++_}
+use Rattle.rules.specs.Fold.{pick, mem, listTo}
+use Rattle.rules.specs.Instance.{Instance, Job}
+use Rattle.sheet.specs.Represent.{padded}
+
+-- entry i - 1 is 1 where l names i
+unfoldable pub marksOf : List ℕ → List ℕ
+marksOf l = listTo 24 (λ i. pick (mem i l) 1 0)
+
+-- the rows of jobs
+unfoldable pub markRows : List Job → List ℕ
+markRows [] = []
+markRows (j ∷ js) = marksOf (j .list) ++ markRows js
+
+-- entry 24 (b - 1) + (i - 1) is 1 where instrument i may run batch b
+unfoldable pub marks : Instance → List ℕ
+marks I = padded 4800 (markRows (I .jobs))

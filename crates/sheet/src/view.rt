@@ -1,0 +1,86 @@
+// What a sheet holds, in arrays, and other places entered.
+ghost use Prim.Native.Nat.{ℕ, _+_, _<_, _≤_};
+ghost use mathlib.Core.Path.{_≡_};
+ghost use mathlib.Core.List.{map};
+ghost use lib.ListN.{length, getD, take, drop, replicate};
+ghost use lib.Seq.{paste};
+ghost use Rattle.rules.specs.Instance.{Job, instance, n, places};
+ghost use Rattle.rules.specs.Run.{withPlaces};
+ghost use Rattle.sheet.specs.Represent.{Sound, padded, bookOf, sheetOf};
+ghost use Rattle.sheet.specs.View.{marksOf, marks};
+use crate::Sheet;
+use crate::enter_part;
+
+impl Sheet {
+    // How many instruments.
+    pub fn instruments(self) -> usize
+        ensures { λ r. ⌜ r ≡ instance (bookOf self) .m ⌝ }
+    {
+        self.m
+    }
+
+    // How many batches.
+    pub fn batches(self) -> usize
+        ensures { λ r. ⌜ r ≡ n (instance (bookOf self)) ⌝ }
+    {
+        self.n
+    }
+
+    // Each batch's minutes; 0 past the last batch.
+    pub fn minutes(self) -> [u16; 200]
+        requires { ⌜ Sound self ⌝ }
+        ensures { λ r. ⌜ r ≡ padded 200 (map (λ (j : Job). j .minutes) (instance (bookOf self) .jobs)) ⌝ }
+    {
+        self.minutes
+    }
+
+    // Each batch's place; 0 past the last batch.
+    pub fn places(self) -> [u8; 200]
+        requires { ⌜ Sound self ⌝ }
+        ensures { λ r. ⌜ r ≡ padded 200 (places (bookOf self)) ⌝ }
+    {
+        self.places
+    }
+
+    // 1 at 24 (b - 1) + (i - 1) where instrument i may run batch b; 0 elsewhere.
+    pub fn eligibility(self) -> [u8; 4800]
+        requires { ⌜ Sound self ⌝ }
+        ensures { λ r. ⌜ r ≡ marks (instance (bookOf self)) ⌝ }
+    {
+        let n = self.n;
+        let counts = self.counts;
+        let lists = self.lists;
+        let mut marks = [0u8; 4800];
+        let mut i = 0;
+        while i < n {
+            mark_row(&mut marks, i * 24, &lists, counts[i] as usize);
+            i += 1;
+        }
+        marks
+    }
+
+    // The batches on the places of x; what x has past the last batch is not taken.
+    pub fn with_places(mut self, x: [u8; 200]) -> Sheet
+        requires { ⌜ Sound self ⌝ }
+        ensures { λ r. ⌜ r ≡ sheetOf (withPlaces (bookOf self) (take (n (instance (bookOf self))) x)) ⌝ }
+    {
+        let n = self.n;
+        let mut places = self.places;
+        enter_part(&mut places, 0, &x, n);
+        self.places = places;
+        self
+    }
+}
+
+// Of the 24 entries from at on, all 0, those of the count instruments that lists names from at on become 1.
+fn mark_row(marks: &mut [u8], at: usize, lists: &[u8], count: usize)
+    requires { ⌜ at + 24 ≤ length (now marks) ⌝ ∗ ⌜ paste (now marks) at (replicate 24 0) 24 ≡ now marks ⌝ ∗ ⌜ at + count ≤ length (now lists) ⌝ ∗ ⌜ ((k : ℕ) → k < count → (0 < getD (now lists) (at + k) 0) × (getD (now lists) (at + k) 0 ≤ 24)) ⌝ }
+    ensures { λ r. ⌜ now (marks .exit) ≡ paste (now (marks .entry)) at (marksOf (take count (drop at (now (lists .entry))))) 24 ⌝ }
+{
+    let mut j = 0;
+    while j < count {
+        let x = lists[at + j] as usize;
+        marks[at + (x - 1)] = 1;
+        j += 1;
+    }
+}

@@ -1,0 +1,140 @@
+-- Groups of machines as lists and as words say the same.
+-- Assumes nothing.
+use Prim.Native.Nat.{ℕ, zero, suc, _-_, _*_, _/_, _%_, _^_, _≤_, _<_}
+use mathlib.Core.Path.{_≡_, refl, sym, ap, _∙_}
+use mathlib.Core.Bool.{Bool, true, false}
+use mathlib.Core.List.{List, [], _∷_, _++_, append-nil, append-assoc}
+use native.Mathlib.Nat.{le-refl, pow-suc, mod-eq-of-lt, one-mul}
+use native.Mathlib.Omega.{arith}
+use lib.ListN.{length, take, set, replicate, length-append}
+use lib.Seq.{take-at, set-at}
+use lib.Pow.{pow-pos, pow-mono}
+use lib.Dec.{leb}
+use borrow.Author.Tests.{eq-eqb, le-leb, lt-leb, leb-true, leb-false}
+use Rattle.rules.specs.Fold.{mem, thoseTo}
+use Rattle.rules.specs.Instance.{Instance}
+use Rattle.theory.proofs.Logic.{byTest}
+use Rattle.theory.proofs.Member.{mem-none}
+use Rattle.theory.proofs.Those.{those-mem, those-range}
+use Rattle.theory.proofs.Closure.{IsGroup, those}
+use Rattle.arrays.specs.Sets.{has, SetOf}
+use Rattle.trials.specs.Grouping.{Holds}
+use Rattle.arrays.proofs.Bits.{bit, bit-zero}
+use Rattle.arrays.proofs.Words.{has-bit, set-none}
+use Rattle.arrays.proofs.Masks.{set-same}
+
+-- ---- the list of those that pass
+
+pub those-ext : (k : ℕ) (p q : ℕ → Bool) → ((i : ℕ) → 0 < i → i ≤ k → p i ≡ q i) → thoseTo k p ≡ thoseTo k q
+unfolding thoseTo
+those-ext zero p q h = refl
+those-ext (suc k) p q h = rw (those-ext k p q (λ i l u. h i l (omega arith)), h (suc k) (omega arith) (le-refl (suc k)))
+
+-- the list names those that pass, where none above k does
+pub those-all : (k : ℕ) (p : ℕ → Bool) → ((i : ℕ) → p i ≡ true → i ≤ k) → (i : ℕ) → 0 < i → mem i (thoseTo k p) ≡ p i
+those-all k p h i l =
+    byTest (p i)
+    (λ t. those-mem k p i l (h i t))
+    (λ t. byTest (mem i (thoseTo k p))
+    (λ e. let w = those-range k p i e in those-mem k p i l (w .1))
+    (λ e. e ∙ sym t))
+
+-- ---- a group is the list of its machines
+
+group-own : {I : Instance} {g : List ℕ} → IsGroup I g → thoseTo (I .m) (λ i. mem i g) ≡ g
+group-own {I} (those p) = those-ext (I .m) _ p (λ i l u. those-mem (I .m) p i l u)
+
+-- and of those of the word that says it
+pub members-group : {I : Instance} {g : List ℕ} (m x : ℕ) → I .m ≡ m → m ≤ 24 → IsGroup I g → SetOf (λ i. mem i g) x
+    → thoseTo m (λ i. has x i) ≡ g
+members-group {I} {g} m x e f r s =
+    those-ext m _ (λ i. mem i g) (λ i l u. s .each i l (omega arith))
+    ∙ ap (λ (k : ℕ). thoseTo k (λ i. mem i g)) (sym e)
+    ∙ group-own r
+
+-- two groups of one word
+pub groups-same : {I : Instance} {g h : List ℕ} (x : ℕ) → I .m ≤ 24 → IsGroup I g → IsGroup I h
+    → SetOf (λ i. mem i g) x → SetOf (λ i. mem i h) x → g ≡ h
+groups-same {I} x f r q s t = sym (members-group (I .m) x refl f r s) ∙ members-group (I .m) x refl f q t
+
+-- ---- all machines
+
+ones : (m k : ℕ) → bit (2 ^ m - 1) k ≡ leb (suc k) m
+unfolding bit
+ones zero k = bit-zero k ∙ sym (lt-leb (suc k) 0 (omega arith))
+ones (suc m) zero =
+    let p = pow-suc 2 m in
+    let q = pow-pos m in
+    eq-eqb ((2 ^ suc m - 1) % 2) 1 (omega arith) ∙ sym (le-leb 1 (suc m) (omega arith))
+ones (suc m) (suc k) =
+    let p = pow-suc 2 m in
+    let e : (2 ^ suc m - 1) / 2 ≡ 2 ^ m - 1 = omega arith in
+    ap (λ (x : ℕ). bit x k) e ∙ ones m k ∙ leb-suc (suc k) m
+  where
+    leb-suc : (a b : ℕ) → leb a b ≡ leb (suc a) (suc b)
+    leb-suc a b =
+        byTest (leb a b)
+        (λ t. t ∙ sym (le-leb (suc a) (suc b) (omega (arith, leb-true a b t))))
+        (λ t. t ∙ sym (lt-leb (suc a) (suc b) (omega (arith, leb-false a b t))))
+
+pow-few : (m : ℕ) → m ≤ 24 → (0 < 2 ^ m) × (2 ^ m ≤ 2 ^ 24)
+pow-few m h = (pow-pos m, pow-mono {i = m} {j = 24} h)
+
+-- as the shift leaves it
+all-word : (m : ℕ) → m ≤ 24 → 1 * 2 ^ m % 4294967296 ≡ 2 ^ m
+all-word m h = let w = pow-few m h in rw (one-mul (2 ^ m)) (mod-eq-of-lt (omega arith))
+
+pub all-some : (m : ℕ) → m ≤ 24 → 1 ≤ 1 * 2 ^ m % 4294967296
+all-some m h = rw (all-word m h) (pow-few m h .0)
+
+pub all-set : (m : ℕ) → m ≤ 24 → SetOf (λ i. leb i m) (1 * 2 ^ m % 4294967296 - 1)
+all-set m h = rw (all-word m h) record {
+  small = let w = pow-few m h in omega arith;
+  each = λ i l u. has-bit (2 ^ m - 1) i ∙ ones m (i - 1) ∙ (let e : suc (i - 1) ≡ i = omega arith in rw e);
+}
+
+-- the group of all machines
+pub all-group : (I : Instance) (m x : ℕ) → I .m ≡ m → SetOf (λ i. leb i m) x → SetOf (λ i. mem i (thoseTo (I .m) (λ k. true))) x
+all-group I m x e =
+    set-same (λ i. mem i (thoseTo (I .m) (λ k. true)))
+    (λ i l u.
+    sym (those-all (I .m) (λ j. leb j m) (λ j t. let h = leb-true j m t in omega arith) i l)
+    ∙ ap (mem i) (those-ext (I .m) (λ j. leb j m) (λ k. true) (λ j p q. le-leb j m (omega arith))))
+
+-- the empty group
+pub none-group : SetOf (λ i. mem i []) 0
+none-group = set-same (λ i. mem i []) (λ i l u. sym (mem-none i)) set-none
+
+-- ---- the list, in an array of 24 with zeros after it
+
+pub holds-none : Holds [] (replicate 24 0) 0
+holds-none = record { front = refl; count = refl; few = omega arith; padded = refl }
+
+holds-more : (g array : List ℕ) (size v : ℕ) → size < 24 → Holds g array size → Holds (g ++ (v ∷ [])) (set array size v) (suc size)
+holds-more g array size v l h = record {
+  front = ap (take (suc size)) stored ∙ take-at _ _ (suc size) long;
+  count = sym long;
+  few = l;
+  padded = stored;
+}
+  where
+    long : length (g ++ (v ∷ [])) ≡ suc size
+    long = length-append g (v ∷ []) ∙ (let e = h .count in omega arith)
+
+    left : 24 - size ≡ suc (24 - suc size)
+    left = omega arith
+
+    stored : set array size v ≡ (g ++ (v ∷ [])) ++ replicate (24 - suc size) 0
+    stored =
+        ap (λ (a : List ℕ). set a size v) (h .padded ∙ ap (λ (k : ℕ). g ++ replicate k 0) left)
+        ∙ set-at g 0 (replicate (24 - suc size) 0) v size (sym (h .count))
+        ∙ sym (append-assoc g (v ∷ []) (replicate (24 - suc size) 0))
+
+module _ (p : ℕ → Bool) (array : List ℕ) (size i : ℕ) (h : Holds (thoseTo i p) array size) where
+  pub holds-in : p (suc i) ≡ true → size < 24 → Holds (thoseTo (suc i) p) (set array size (suc i)) (suc size)
+  unfolding thoseTo
+  holds-in e l = rw e (holds-more (thoseTo i p) array size (suc i) l h)
+
+  pub holds-out : p (suc i) ≡ false → Holds (thoseTo (suc i) p) array size
+  unfolding thoseTo
+  holds-out e = rw (e, append-nil (thoseTo i p)) h

@@ -1,0 +1,4 @@
+pub mod Attempt
+pub mod Grouping
+pub mod Reads
+pub mod Track

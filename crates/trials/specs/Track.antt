@@ -1,0 +1,152 @@
+-- A trial's arrays, and what of the rules they stand for.
+-- Assumes nothing.
+use Prim.Native.Nat.{ℕ, suc, _+_, _*_, _≤_, _<_}
+use mathlib.Core.Path.{_≡_}
+use mathlib.Core.Bool.{Bool, true, false, not}
+use mathlib.Core.List.{List}
+use lib.ListN.{length, take, getD}
+use lib.Dec.{ltb, leb, eqb}
+use Rattle.rules.specs.Fold.{_and_, _or_, at, firstTo, anyTo}
+use Rattle.rules.specs.Instance.{Instance, n}
+use Rattle.rules.specs.Load.{load, longest}
+use Rattle.rules.specs.Trial as T
+use Rattle.theory.proofs.Underloaded.{Runnable}
+use Rattle.theory.proofs.Ending.{Counted}
+use Rattle.theory.proofs.View.{None}
+use Rattle.theory.proofs.Iterate.{Leads}
+use Rattle.theory.proofs.Turn.{Placed, able, nextOff}
+use Rattle.trials.specs.declared.State.{State}
+use Rattle.arrays.specs.Sets.{Levels}
+use Rattle.trials.specs.Reads.{Reads}
+
+-- the rules' state that the arrays hold, for m machines and n jobs
+abbrev pub stateOf : ℕ → ℕ → State → T.State
+stateOf m n t = record {
+  assignment = take n (t .places);
+  machineHeights = take m (t .machines);
+  jobHeights = take n (t .jobs);
+  lifts = t .lifts;
+  pushes = t .pushes;
+}
+
+-- a trial at level a of the instance that the arrays say, with the limit above which a load is too much
+pub record Setup (I : Instance) (a limit m c : ℕ) (lengths sets : List ℕ) : Type 0 where
+  pub reads : Reads I m c lengths sets
+  pub cap : limit ≡ a + longest I
+  pub runnable : Runnable I
+
+-- the arrays hold a state of a trial: one that its steps can reach, with loads and levels kept beside it
+pub record Tracks (I : Instance) (a : ℕ) (t : State) : Type 0 where
+  pub counted : Counted I (stateOf (I .m) (n I) t)
+  pub placed : Placed I (stateOf (I .m) (n I) t)
+  pub loads : (i : ℕ) → 0 < i → i ≤ I .m → at (t .loads) i ≡ load I (take (n I) (t .places)) i
+  pub levels : Levels (t .levels) (t .machines) (I .m)
+
+-- it is machine i's turn: the lowest that may act, while some machine is underloaded
+pub record Turn (I : Instance) (a i : ℕ) (t : State) : Type 0 where
+  pub tracks : Tracks I a t
+  pub first : firstTo (I .m) (λ j. able I a (stateOf (I .m) (n I) t) j) ≡ i
+  pub some : T.someUnderloaded I a (stateOf (I .m) (n I) t) ≡ true
+
+-- a state of these arrays and counts
+abbrev pub arrays : List ℕ → List ℕ → List ℕ → List ℕ → List ℕ → ℕ → ℕ → State
+arrays machines jobs places loads levels lifts pushes = record {
+  machines = machines;
+  jobs = jobs;
+  places = places;
+  loads = loads;
+  levels = levels;
+  lifts = lifts;
+  pushes = pushes;
+  resting = false;
+}
+
+-- After machine i gave a job to machine j, which had the load old: i is still overloaded, j is no lower one that may act now, and some
+-- machine is still underloaded. i and j are indices.
+unfoldable pub goesOn : List ℕ → List ℕ → ℕ → ℕ → ℕ → ℕ → ℕ → ℕ → ℕ → Bool
+goesOn loads machines m a limit top i j old =
+    ltb limit (getD loads i 0)
+    and not (ltb j i and ltb limit (getD loads j 0) and leb (getD machines j 0) top)
+    and (ltb a old or leb (getD loads j 0) a or anyTo m (λ q. leb (at loads q) a))
+
+-- no job up to number c on machine i + 1 stands just below it
+abbrev pub Passed : ℕ → ℕ → State → Type 0
+Passed i c t = None c (λ b. eqb (at (t .places) b) (suc i) and eqb (at (t .machines) (suc i)) (suc (at (t .jobs) b)))
+
+-- from t to t′, where the job at index b was handed over by the machine at index i, whose turn it still is or not
+pub record Onward (I : Instance) (a i b : ℕ) (t t′ : State) (stays : Bool) : Type 0 where
+  pub leads : Leads I a (stateOf (I .m) (n I) t) (stateOf (I .m) (n I) t′)
+  pub tracks : Tracks I a t′
+  pub passed : Passed i (suc b) t′
+  pub turn : stays ≡ true → Turn I a (suc i) t′
+
+-- the job at index b is next to be handed over by the machine at index i, whose turn it is
+pub record Giving (I : Instance) (a limit m c : ℕ) (lengths sets : List ℕ) (i b : ℕ) (t : State) : Type 0 where
+  pub setup : Setup I a limit m c lengths sets
+  pub turn : Turn I a (suc i) t
+  pub next : nextOff I (stateOf (I .m) (n I) t) (suc i) ≡ suc b
+  pub wide : length (t .loads) ≡ 24
+
+-- whatever instance the arrays say, t′ is t with that job handed over
+abbrev pub Gives : ℕ → ℕ → ℕ → ℕ → List ℕ → List ℕ → ℕ → ℕ → State → State → Bool → Type 0
+Gives a limit m c lengths sets i b t t′ stays =
+    (I : Instance) → Giving I a limit m c lengths sets i b t → Onward I a i b t t′ stays
+
+-- a machine's turn begins
+pub record Passing (I : Instance) (a limit m c : ℕ) (lengths sets : List ℕ) (i : ℕ) (t : State) : Type 0 where
+  pub setup : Setup I a limit m c lengths sets
+  pub turn : Turn I a (suc i) t
+  pub wide : length (t .loads) ≡ 24
+
+-- it has ended: stopped by another's turn or the trial's end, or with no job left just below the machine
+pub record Went (I : Instance) (a i : ℕ) (t t′ : State) (stopped : Bool) : Type 0 where
+  pub leads : Leads I a (stateOf (I .m) (n I) t) (stateOf (I .m) (n I) t′)
+  pub tracks : Tracks I a t′
+  pub turn : stopped ≡ false → Turn I a (suc i) t′
+  pub none : stopped ≡ false → nextOff I (stateOf (I .m) (n I) t′) (suc i) ≡ 0
+
+abbrev pub Goes : ℕ → ℕ → ℕ → ℕ → List ℕ → List ℕ → ℕ → State → State → Bool → Type 0
+Goes a limit m c lengths sets i t t′ stopped =
+    (I : Instance) → Passing I a limit m c lengths sets i t → Went I a i t t′ stopped
+
+-- so far in a turn: from t to t′, with the jobs up to number from passed
+pub record Along (I : Instance) (a i from : ℕ) (t t′ : State) : Type 0 where
+  pub leads : Leads I a (stateOf (I .m) (n I) t) (stateOf (I .m) (n I) t′)
+  pub turn : Turn I a (suc i) t′
+  pub passed : Passed i from t′
+
+-- the state, and that nothing acts
+abbrev pub restOf : State → State
+restOf t = record {
+  machines = t .machines;
+  jobs = t .jobs;
+  places = t .places;
+  loads = t .loads;
+  levels = t .levels;
+  lifts = t .lifts;
+  pushes = t .pushes;
+  resting = true;
+}
+
+-- a trial between two steps
+pub record Stepping (I : Instance) (a limit m c : ℕ) (lengths sets : List ℕ) (t : State) : Type 0 where
+  pub setup : Setup I a limit m c lengths sets
+  pub tracks : Tracks I a t
+
+-- the steps of the rules lead from t to t′; t′ rests where nothing acts, and otherwise more steps were made
+pub record Stepped (I : Instance) (a : ℕ) (t t′ : State) : Type 0 where
+  pub leads : Leads I a (stateOf (I .m) (n I) t) (stateOf (I .m) (n I) t′)
+  pub tracks : Tracks I a t′
+  pub rests : t′ .resting ≡ true → T.act I a (stateOf (I .m) (n I) t′) ≡ T.rest
+
+abbrev pub Steps : ℕ → ℕ → ℕ → ℕ → List ℕ → List ℕ → State → State → Type 0
+Steps a limit m c lengths sets t t′ = (I : Instance) → Stepping I a limit m c lengths sets t → Stepped I a t t′
+
+-- the steps of the rules lead from t to t′, and nothing acts there
+pub record Ended (I : Instance) (a : ℕ) (t t′ : State) : Type 0 where
+  pub leads : Leads I a (stateOf (I .m) (n I) t) (stateOf (I .m) (n I) t′)
+  pub tracks : Tracks I a t′
+  pub rests : T.act I a (stateOf (I .m) (n I) t′) ≡ T.rest
+
+abbrev pub Ends : ℕ → ℕ → ℕ → ℕ → List ℕ → List ℕ → State → State → Type 0
+Ends a limit m c lengths sets t t′ = (I : Instance) → Stepping I a limit m c lengths sets t → Ended I a t t′

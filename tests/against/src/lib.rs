@@ -1,0 +1,377 @@
+//! Cases for the program `probe`, which drives the proved code, and what the
+//! second planner says to each of them.
+//!
+//! The comment at the top of the program's source gives the bytes of a case
+//! and the lines of an answer.
+
+pub mod cases;
+
+use std::fmt::Write as _;
+use std::io::{Read, Write};
+use std::path::Path;
+use std::process::{Command, Stdio};
+use std::sync::atomic::{AtomicUsize, Ordering};
+use std::sync::Mutex;
+use std::thread;
+
+use second::{Answer, Call, Review, Sheet, Trial, Verdict};
+
+/// A sheet's bytes, good or bad, and calls on the sheet.
+#[derive(Clone, Debug)]
+pub struct Case {
+    pub sheet: Vec<u8>,
+    pub calls: Vec<Call>,
+}
+
+impl From<Vec<u8>> for Case {
+    fn from(sheet: Vec<u8>) -> Case {
+        Case {
+            sheet,
+            calls: Vec::new(),
+        }
+    }
+}
+
+impl Case {
+    /// Add the case to a stream for the program.
+    pub fn put(&self, stream: &mut Vec<u8>) {
+        let mut calls = Vec::new();
+        for call in &self.calls {
+            put_call(&mut calls, call);
+        }
+        put_number(stream, self.sheet.len() as u64);
+        put_number(stream, calls.len() as u64);
+        stream.extend(&self.sheet);
+        stream.extend(&calls);
+    }
+
+    /// The lines that the program must answer, by the second planner. Every
+    /// refusal is counted.
+    pub fn expected(&self, seen: &mut Seen) -> String {
+        let mut text = String::new();
+        let mut sheet = match second::read(&self.sheet) {
+            Ok(sheet) => sheet,
+            Err(fault) => {
+                let number = fault.refusal.number();
+                seen.read(number, fault.line);
+                writeln!(text, "R {number} {}", fault.line).unwrap();
+                return text;
+            }
+        };
+        seen.sheets += 1;
+        for call in &self.calls {
+            let answer = second::apply(&mut sheet, call);
+            let number = match &answer {
+                Answer::Refused(refusal) => refusal.number(),
+                _ => 0,
+            };
+            seen.call(call, number);
+            write!(text, "{number}").unwrap();
+            match answer {
+                Answer::Done | Answer::Refused(_) => {}
+                Answer::Review(review) => {
+                    seen.review(&review);
+                    put_review(&mut text, &review);
+                }
+                Answer::Trial(trial) => {
+                    seen.trial(&trial, sheet.instruments());
+                    put_trial(&mut text, &trial);
+                }
+                other => panic!("{other:?}: the program does not know this call yet"),
+            }
+            text.push('\n');
+        }
+        put_content(&mut text, &sheet);
+        text
+    }
+}
+
+fn put_number(stream: &mut Vec<u8>, number: u64) {
+    let number = u32::try_from(number).expect("arguments are of four bytes");
+    stream.extend(number.to_le_bytes());
+}
+
+fn put_call(stream: &mut Vec<u8>, call: &Call) {
+    let (kind, a, b, list) = match call {
+        Call::Add { length, list } => (1, *length, 0, list.as_slice()),
+        Call::Withdraw { number } => (2, *number, 0, [].as_slice()),
+        Call::Requalify { number, list } => (3, *number, 0, list.as_slice()),
+        Call::Move { number, instrument } => (4, *number, *instrument, [].as_slice()),
+        Call::Review => (5, 0, 0, [].as_slice()),
+        Call::Trial { level } => (6, *level, 0, [].as_slice()),
+        Call::Plan => (7, 0, 0, [].as_slice()),
+    };
+    stream.push(kind);
+    stream.push(u8::try_from(list.len()).expect("at most 255 items"));
+    put_number(stream, a);
+    put_number(stream, b);
+    for &item in list {
+        put_number(stream, item);
+    }
+}
+
+fn put_review(text: &mut String, review: &Review) {
+    let improves = review.improves.unwrap_or(0);
+    write!(text, " {} {improves}", review.makespan).unwrap();
+    for load in &review.loads {
+        write!(text, " {load}").unwrap();
+    }
+}
+
+fn put_trial(text: &mut String, trial: &Trial) {
+    let passed = matches!(trial.verdict, Verdict::Pass(_)) as u32;
+    write!(text, " {passed} {} {}", trial.lifts, trial.pushes).unwrap();
+    match &trial.verdict {
+        Verdict::Pass(places) => {
+            for place in places {
+                write!(text, " {place}").unwrap();
+            }
+        }
+        Verdict::Fail(group) => {
+            for member in group.numbers() {
+                write!(text, " {member}").unwrap();
+            }
+        }
+    }
+}
+
+fn put_content(text: &mut String, sheet: &Sheet) {
+    let batches = sheet.batches();
+    writeln!(text, "S {} {}", sheet.instruments(), batches.len()).unwrap();
+    for batch in batches {
+        write!(text, "{} {}", batch.length(), batch.place()).unwrap();
+        for instrument in batch.eligible().numbers() {
+            write!(text, " {instrument}").unwrap();
+        }
+        text.push('\n');
+    }
+}
+
+/// How often each thing was seen, so that a test can tell what it covered.
+#[derive(Clone, Debug, Default)]
+pub struct Seen {
+    pub cases: usize,
+    /// Sheets that were read without a fault.
+    pub sheets: usize,
+    /// By refusal number; 0 counts calls that were not refused.
+    pub refusals: [usize; 10],
+    /// By refusal number, how often reading was refused at each line.
+    pub lines: [Vec<usize>; 10],
+    /// By kind of call and by refusal number.
+    pub calls: [[usize; 10]; 8],
+    /// Reviews of sheets on which some batch improves, and on which none does.
+    pub improving: usize,
+    pub settled: usize,
+    pub trials: Trials,
+}
+
+/// What trials came to.
+#[derive(Clone, Debug, Default)]
+pub struct Trials {
+    pub passed: usize,
+    pub failed: usize,
+    /// Passes that made steps.
+    pub worked: usize,
+    /// Failures with fewer members than there are instruments, and those of
+    /// them with more than one.
+    pub partial: usize,
+    pub several: usize,
+    /// Trials of more than 100,000 steps, passed and failed.
+    pub long_passes: usize,
+    pub long_failures: usize,
+    /// The most steps of one trial.
+    pub most: u32,
+    /// Of all trials together.
+    pub steps: u64,
+}
+
+impl Trials {
+    fn add(&mut self, other: &Trials) {
+        self.passed += other.passed;
+        self.failed += other.failed;
+        self.worked += other.worked;
+        self.partial += other.partial;
+        self.several += other.several;
+        self.long_passes += other.long_passes;
+        self.long_failures += other.long_failures;
+        self.most = self.most.max(other.most);
+        self.steps += other.steps;
+    }
+}
+
+impl Seen {
+    fn read(&mut self, number: u32, line: u32) {
+        let (number, line) = (number as usize, line as usize);
+        self.refusals[number] += 1;
+        let lines = &mut self.lines[number];
+        if lines.len() <= line {
+            lines.resize(line + 1, 0);
+        }
+        lines[line] += 1;
+    }
+
+    fn call(&mut self, call: &Call, number: u32) {
+        let kind = match call {
+            Call::Add { .. } => 1,
+            Call::Withdraw { .. } => 2,
+            Call::Requalify { .. } => 3,
+            Call::Move { .. } => 4,
+            Call::Review => 5,
+            Call::Trial { .. } => 6,
+            Call::Plan => 7,
+        };
+        self.refusals[number as usize] += 1;
+        self.calls[kind][number as usize] += 1;
+    }
+
+    fn review(&mut self, review: &Review) {
+        match review.improves {
+            Some(_) => self.improving += 1,
+            None => self.settled += 1,
+        }
+    }
+
+    fn trial(&mut self, trial: &Trial, m: usize) {
+        let steps = trial.lifts + trial.pushes;
+        let long = (steps > 100_000) as usize;
+        let t = &mut self.trials;
+        match &trial.verdict {
+            Verdict::Pass(_) => {
+                t.passed += 1;
+                t.worked += (steps > 0) as usize;
+                t.long_passes += long;
+            }
+            Verdict::Fail(group) => {
+                t.failed += 1;
+                t.partial += (group.size() < m) as usize;
+                t.several += (1 < group.size() && group.size() < m) as usize;
+                t.long_failures += long;
+            }
+        }
+        t.most = t.most.max(steps);
+        t.steps += steps as u64;
+    }
+
+    fn add(&mut self, other: &Seen) {
+        self.cases += other.cases;
+        self.sheets += other.sheets;
+        self.improving += other.improving;
+        self.settled += other.settled;
+        self.trials.add(&other.trials);
+        for number in 0..10 {
+            self.refusals[number] += other.refusals[number];
+            let (ours, theirs) = (&mut self.lines[number], &other.lines[number]);
+            ours.resize(ours.len().max(theirs.len()), 0);
+            for (sum, count) in ours.iter_mut().zip(theirs) {
+                *sum += count;
+            }
+            for kind in 0..8 {
+                self.calls[kind][number] += other.calls[kind][number];
+            }
+        }
+    }
+
+    /// What a test prints of it.
+    pub fn summary(&self) -> String {
+        let (cases, sheets) = (self.cases, self.sheets);
+        let (made, refusals) = (self.refusals[0], &self.refusals[1..=8]);
+        let mut text = format!(
+            "{cases} cases, {sheets} read, {made} calls made, refusals 1 to 8: {refusals:?}"
+        );
+        if self.trials.steps > 0 {
+            let (some, none) = (self.improving, self.settled);
+            write!(
+                text,
+                "; reviews {some} improving, {none} not; {:?}",
+                self.trials
+            )
+            .unwrap();
+        }
+        text
+    }
+
+    /// At how many lines reading was refused with this number.
+    pub fn spread(&self, number: usize) -> usize {
+        self.lines[number]
+            .iter()
+            .filter(|&&count| count > 0)
+            .count()
+    }
+}
+
+/// What the program writes when it is fed a stream.
+pub fn probe(stream: &[u8]) -> Vec<u8> {
+    let path = Path::new(env!("CARGO_MANIFEST_DIR")).join("../../target/bin/probe");
+    assert!(
+        path.exists(),
+        "target/bin/probe is missing: run `rt check` at the root of the repository first"
+    );
+    let mut child = Command::new(&path)
+        .stdin(Stdio::piped())
+        .stdout(Stdio::piped())
+        .spawn()
+        .expect("the program starts");
+    let mut input = child.stdin.take().unwrap();
+    let mut output = child.stdout.take().unwrap();
+    let mut text = Vec::new();
+    thread::scope(|scope| {
+        // A program that stops early closes its input; its text then tells.
+        scope.spawn(move || input.write_all(stream));
+        output.read_to_end(&mut text).expect("the program's text");
+    });
+    let status = child.wait().expect("the program ends");
+    assert!(status.success(), "the program ends with {status}");
+    text
+}
+
+/// Feed the cases to one process and compare all that it writes.
+pub fn compare(cases: &[Case]) -> Seen {
+    compare_with(cases, cases)
+}
+
+/// The same, with the expectation taken from other cases than those fed.
+pub fn compare_with(fed: &[Case], judged: &[Case]) -> Seen {
+    let mut seen = Seen {
+        cases: judged.len(),
+        ..Seen::default()
+    };
+    let mut stream = Vec::new();
+    for case in fed {
+        case.put(&mut stream);
+    }
+    let got = probe(&stream);
+    let mut rest = got.as_slice();
+    for (k, case) in judged.iter().enumerate() {
+        let expected = case.expected(&mut seen);
+        rest = rest.strip_prefix(expected.as_bytes()).unwrap_or_else(|| {
+            let shown = &rest[..rest.len().min(expected.len() + 100)];
+            panic!(
+                "case {k}\nsheet:\n{}\ncalls: {:?}\nexpected:\n{expected}\ngot:\n{}",
+                String::from_utf8_lossy(&case.sheet),
+                case.calls,
+                String::from_utf8_lossy(shown),
+            )
+        });
+    }
+    assert!(rest.is_empty(), "{} bytes too many", rest.len());
+    seen
+}
+
+/// Compare many runs, two at a time: `make` gives the cases of each.
+pub fn compare_runs(runs: usize, make: impl Fn(u64) -> Vec<Case> + Sync) -> Seen {
+    let next = AtomicUsize::new(0);
+    let total = Mutex::new(Seen::default());
+    thread::scope(|scope| {
+        for _ in 0..2 {
+            scope.spawn(|| loop {
+                let run = next.fetch_add(1, Ordering::Relaxed);
+                if run >= runs {
+                    break;
+                }
+                let seen = compare(&make(run as u64));
+                total.lock().unwrap().add(&seen);
+            });
+        }
+    });
+    total.into_inner().unwrap()
+}
