@@ -1,7 +1,9 @@
+pub mod Drawing
 pub mod Gains
 pub mod Placing
 pub mod Relocate
 pub mod Reviewing
+pub mod Runs
 pub mod Seeking
 pub mod Settles
 pub mod Shows

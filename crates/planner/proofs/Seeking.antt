@@ -19,7 +19,7 @@ use Rattle.arrays.specs.Sets.{has}
 use Rattle.arrays.proofs.Words.{set-none}
 use Rattle.trials.specs.declared.trial.Attempt.{Attempt}
 use Rattle.trials.specs.Attempt.{Standing, Tries}
-use Rattle.trials.proofs.Groups.{those-ext, members-group}
+use Rattle.trials.proofs.Groups.{those-ext, members-group, none-group}
 use Rattle.planner.specs.declared.balance.Search.{Search}
 use Rattle.planner.specs.Search.{searchOf, opened, learned, Sought, Seeking}
 
@@ -56,6 +56,7 @@ module _ {I : Instance} {m c : ℕ} {lengths sets places loads : List ℕ} (st :
     fuel = makespan I (take c places);
     enough = omega arith;
     same = rw (none-in m (st .reads .few), e) refl;
+    isSet = rw (none-in m (st .reads .few)) none-group;
     permitted = st .permitted;
     kept = st .kept;
   }
@@ -72,6 +73,7 @@ module _ {I : Instance} {m c : ℕ} {lengths sets places loads : List ℕ} (st :
     fuel = f;
     enough = omega arith;
     same = (rw (r .passes e) at g);
+    isSet = k .isSet;
     permitted = r .permitted;
     kept = r .kept;
   })
@@ -81,6 +83,7 @@ module _ {I : Instance} {m c : ℕ} {lengths sets places loads : List ℕ} (st :
         fuel = f;
         enough = omega arith;
         same = rw (q, add-one a) (rw (r .fails e) at g);
+        isSet = rw q (r .isSet e);
         permitted = k .permitted;
         kept = k .kept;
       })
@@ -112,6 +115,7 @@ module _ {I : Instance} {m c : ℕ} {lengths sets places loads : List ℕ} (st :
   pub seeking-end : (s : Search) → opened s ≡ false → Seeking I m c (take c places) s → Sought I m c (take c places) s
   seeking-end s o k = record {
     found = sym (closed (k .fuel) (take c places) (searchOf m c s)) ∙ (rw o at (k .same));
+    isSet = k .isSet;
     permitted = k .permitted;
     kept = k .kept;
   }

@@ -1,4 +1,4 @@
--- What review and a trial answer, by the rules: each case with document 01's numbers and values.
+-- What review, a trial and planning answer, by the rules: each case with document 01's numbers and values.
 -- Assumes nothing.
 use Prim.Native.Nat.{ℕ}
 use mathlib.Core.Bool.{Bool, true, false}
@@ -8,12 +8,14 @@ use Rattle.rules.specs.Refusal as R
 use Rattle.rules.specs.Sheet.{Book}
 use Rattle.rules.specs.Load as L
 use Rattle.rules.specs.Group as G
-use Rattle.rules.specs.Run.{Answer, refused, done, reviewed, tried, planned, answer, reviewing, trying}
+use Rattle.rules.specs.Plan as P
+use Rattle.rules.specs.Run.{Answer, refused, done, reviewed, tried, planned, answer, reviewing, trying, planBook, withPlaces}
 use Rattle.sheet.specs.declared.Refusal.{Refusal}
 use Rattle.sheet.specs.declared.Refusal.the-variants.{Nothing}
-use Rattle.sheet.specs.Represent.{padded}
+use Rattle.sheet.specs.Represent.{padded, sheetOf}
 use Rattle.sheet.specs.Answers.{coded}
 use Rattle.planner.specs.declared.Tried.{Tried}
+use Rattle.planner.specs.declared.Planned.{Planned}
 use Rattle.planner.specs.declared.review.Reviewed.{Reviewed}
 
 -- nothing but a refusal
@@ -57,3 +59,21 @@ reviewedAs v = record { loads = padded 24 (v .loads); makespan = v .makespan; im
 -- the answer to a review of the book
 unfoldable pub reviewOf : Book → Reviewed
 reviewOf k = reviewedAs (L.review (Rattle.rules.specs.Instance.instance k) (Rattle.rules.specs.Instance.places k))
+
+-- a plan's numbers, and the sheet of the book with its places
+abbrev pub plannedAs : Book → P.Plan → Planned
+plannedAs k p = record {
+  makespan = p .makespan;
+  bound = p .lowerBound;
+  level = p .level;
+  lifts = p .lifts;
+  pushes = p .pushes;
+  moves = p .moves;
+  size = length (p .group);
+  group = padded 24 (p .group);
+  sheet = sheetOf (withPlaces k (p .assignment));
+}
+
+-- the answer to planning on the book
+unfoldable pub planOf : Book → Planned
+planOf k = plannedAs k (planBook k)

@@ -1,3 +1,5 @@
 pub mod Settling
 pub mod Calls
 pub mod Search
+pub mod Drawing
+pub mod Runs

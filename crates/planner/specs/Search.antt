@@ -6,12 +6,12 @@ use mathlib.Core.Bool.{Bool}
 use mathlib.Core.List.{List}
 use lib.ListN.{take}
 use lib.Dec.{ltb}
-use Rattle.rules.specs.Fold.{pick, at, thoseTo}
+use Rattle.rules.specs.Fold.{pick, at, mem, thoseTo}
 use Rattle.rules.specs.Instance.{Instance, Assignment}
 use Rattle.rules.specs.Load.{load}
 use Rattle.rules.specs.Balance as B
 use Rattle.theory.proofs.Valid.{Permitted}
-use Rattle.arrays.specs.Sets.{has}
+use Rattle.arrays.specs.Sets.{has, SetOf}
 use Rattle.trials.specs.declared.trial.Attempt.{Attempt}
 use Rattle.planner.specs.declared.balance.Search.{Search}
 
@@ -37,9 +37,10 @@ learned s a t =
     (record { failed1 = s .failed1; group = s .group; level = a; places = t .places; loads = t .loads; lifts = t .lifts; pushes = t .pushes })
     (record { failed1 = a + 1; group = t .group; level = s .level; places = s .places; loads = s .loads; lifts = s .lifts; pushes = s .pushes })
 
--- the end of the search from x, and the loads of the places kept
+-- the end of the search from x, its group as a set, and the loads of the places kept
 pub record Sought (I : Instance) (m c : ℕ) (x : Assignment) (s : Search) : Type 0 where
   pub found : searchOf m c s ≡ B.balance I x
+  pub isSet : SetOf (λ i. mem i (searchOf m c s .group)) (s .group)
   pub permitted : Permitted I (take c (s .places))
   pub kept : (i : ℕ) → 0 < i → i ≤ I .m → at (s .loads) i ≡ load I (take c (s .places)) i
 
@@ -48,5 +49,6 @@ pub record Seeking (I : Instance) (m c : ℕ) (x : Assignment) (s : Search) : Ty
   pub fuel : ℕ
   pub enough : s .level ≤ s .failed1 + fuel
   pub same : B.searchBy I x fuel (searchOf m c s) (opened s) ≡ B.balance I x
+  pub isSet : SetOf (λ i. mem i (searchOf m c s .group)) (s .group)
   pub permitted : Permitted I (take c (s .places))
   pub kept : (i : ℕ) → 0 < i → i ≤ I .m → at (s .loads) i ≡ load I (take c (s .places)) i

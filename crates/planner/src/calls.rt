@@ -1,10 +1,12 @@
-// The calls on a sheet: review and one trial at a level. Neither alters the sheet.
+// The calls on a sheet: review and one trial at a level, which do not alter it, and planning.
 ghost use mathlib.Core.Path.{_≡_};
 ghost use Prim.Native.Nat.{ℕ, _≤_};
 ghost use lib.ListN.{take, length};
 ghost use Rattle.sheet.specs.Represent.{Sound, bookOf, padded};
-ghost use Rattle.planner.specs.Calls.{trialOf, reviewOf};
+ghost use Rattle.planner.specs.Calls.{trialOf, reviewOf, planOf};
+use crate::Planned;
 use crate::Tried;
+use crate::plan::draw;
 use crate::review::Reviewed;
 use crate::review::review_of;
 use arrays::scan::largest;
@@ -92,5 +94,34 @@ pub fn trial(sheet: Sheet, level: u32) -> Tried
         places: [0u8; 200],
         size: g.size,
         group: list,
+    }
+}
+
+// The search over levels from the standing places, and settling after it: the figures, and the sheet with its new places.
+pub fn plan(sheet: Sheet) -> Planned
+    requires { ⌜ Sound sheet ⌝ }
+    ensures { λ r. ⌜ r ≡ planOf (bookOf sheet) ⌝ }
+{
+    let m = sheet.instruments();
+    let n = sheet.batches();
+    let minutes = sheet.minutes();
+    let places = sheet.places();
+    let eligible = sheet.eligibility();
+    let masks = masks_of(&eligible, n, m);
+    let loads = loads_of(&minutes, &places, n, m);
+    let d = draw(places, loads, &minutes, &masks, m, n);
+    let list = d.group;
+    let end = d.places;
+    let after = sheet.with_places(end);
+    Planned {
+        makespan: d.makespan,
+        bound: d.bound,
+        level: d.level,
+        lifts: d.lifts,
+        pushes: d.pushes,
+        moves: d.moves,
+        size: d.size,
+        group: list,
+        sheet: after,
     }
 }

@@ -1,8 +1,10 @@
-// The planner over the sheet: review and the single trial, and settling on arrays.
+// The planner over the sheet: review, the single trial and planning.
 use sheet::Refusal;
+use sheet::Sheet;
 
 pub mod balance;
 pub mod calls;
+pub mod plan;
 pub mod review;
 pub mod settle;
 
@@ -16,4 +18,18 @@ pub struct Tried {
     pub places: [u8; 200],
     pub size: usize,
     pub group: [u8; 24],
+}
+
+// What planning answers: the new makespan, the lower bound, the level kept with the lifts and pushes of its trial, the moves of
+// settling, the group of the highest failed level with its size, 0 where none failed, and the sheet with its new places.
+pub struct Planned {
+    pub makespan: u32,
+    pub bound: u32,
+    pub level: u32,
+    pub lifts: u32,
+    pub pushes: u32,
+    pub moves: u64,
+    pub size: usize,
+    pub group: [u8; 24],
+    pub sheet: Sheet,
 }

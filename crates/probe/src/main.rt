@@ -5,13 +5,14 @@
 // 4 bytes each. Numbers are unsigned, with the lowest byte first.
 //
 // Kinds: 1 add (a minutes, list), 2 withdraw (batch a), 3 requalify (batch a, list), 4 move (batch a to instrument b).
-// 5 review, 6 trial (level a). 7 is kept for plan.
+// 5 review, 6 trial (level a), 7 plan.
 //
 // Answers, a line each: R, the refusal's number and its line, for a sheet that is refused. Otherwise for each call the
 // refusal's number, 0 for none, or ? for a kind that is not there; then S, m and n, and for each batch its minutes,
 // its place and its instruments, ascending. After its 0 a review says the finish, the batch that improves, 0 for none,
 // and the m loads; a trial says 1 for pass or 0 for failure, lifts, pushes, and the places of all batches or the
-// members of the group.
+// members of the group; a plan says the finish, the lower bound, the level, lifts, pushes, moves, and the members of
+// the group.
 //
 // A case that is cut short or too large ends the run. Bytes after the last whole call are passed over.
 ghost use mathlib.Core.Path.{_≡_};
@@ -70,6 +71,19 @@ struct Left {
     at: usize,
 }
 
+// A plan, and the line that it answers.
+fn plan(sheet: Sheet, out: &mut [u8], at: usize) -> Left
+    requires { ⌜ Sound sheet ⌝ }
+    ensures { λ r. ⌜ Sound (r .sheet) ⌝ }
+{
+    let p = planner::calls::plan(sheet);
+    let planned = p.sheet;
+    Left {
+        sheet: planned,
+        at: shown::plan(p, out, at),
+    }
+}
+
 // One call, and the line that it answers.
 fn answer(sheet: Sheet, kind: u8, a: u32, b: u32, list: &[u32], out: &mut [u8], at: usize) -> Left
     requires { ⌜ Sound sheet ⌝ }
@@ -93,7 +107,10 @@ fn answer(sheet: Sheet, kind: u8, a: u32, b: u32, list: &[u32], out: &mut [u8], 
             at: shown::trial(sheet, a, out, at),
         };
     }
-    if 6 < kind {
+    if kind == 7 {
+        return plan(sheet, out, at);
+    }
+    if 7 < kind {
         return Left {
             sheet,
             at: text::unknown(out, at),

@@ -1,7 +1,8 @@
-// What a review and a trial answer, as text.
+// What a review, a trial and a plan answer, as text.
 ghost use Rattle.sheet.specs.Represent.{Sound};
 use crate::code;
 use crate::text;
+use planner::Planned;
 use planner::Tried;
 use sheet::Refusal;
 use sheet::Sheet;
@@ -100,5 +101,29 @@ pub fn review(sheet: Sheet, out: &mut [u8], at: usize) -> usize
     let finish = text::item(out, zero, r.makespan as usize);
     let improving = text::item(out, finish, r.improving);
     let all = loads(&each, m, out, improving);
+    text::end(out, all)
+}
+
+// A plan's makespan, lower bound and level.
+fn figures(p: Planned, out: &mut [u8], at: usize) -> usize {
+    let first = text::item(out, at, p.makespan as usize);
+    let second = text::item(out, first, p.bound as usize);
+    text::item(out, second, p.level as usize)
+}
+
+// Its lifts, pushes and moves.
+fn counts(p: Planned, out: &mut [u8], at: usize) -> usize {
+    let first = text::item(out, at, p.lifts as usize);
+    let second = text::item(out, first, p.pushes as usize);
+    text::item(out, second, p.moves as usize)
+}
+
+// The line of a plan.
+pub fn plan(p: Planned, out: &mut [u8], at: usize) -> usize {
+    let group = p.group;
+    let zero = text::number(out, at, 0);
+    let first = figures(p, out, zero);
+    let second = counts(p, out, first);
+    let all = instruments(&group, p.size, out, second);
     text::end(out, all)
 }

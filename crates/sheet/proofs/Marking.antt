@@ -17,7 +17,7 @@ use Rattle.sheet.specs.View.{marksOf}
 
 -- ---- f 1 to f n as a list
 
-length-listTo : (n : ℕ) (f : ℕ → ℕ) → length (listTo n f) ≡ n
+pub length-listTo : (n : ℕ) (f : ℕ → ℕ) → length (listTo n f) ≡ n
 unfolding listTo
 length-listTo zero f = refl
 length-listTo (suc n) f = omega (arith, length-append (listTo n f) (f (suc n) ∷ []), length-listTo n f)

@@ -11,7 +11,7 @@ use lib.Dec.{ltb}
 use borrow.Author.Tests.{ltb-true, ltb-false}
 use Rattle.rules.specs.Instance.{Instance, Assignment, n}
 use Rattle.rules.specs.Load.{load, longest, makespan}
-use Rattle.rules.specs.Trial.{liftBound, pushBound}
+use Rattle.rules.specs.Trial.{ended, liftBound, pushBound}
 use Rattle.rules.specs.Group.{Tried, passed, failed, trial}
 use Rattle.rules.specs.Balance.{Search, middle, learn, open-gap, searchBy, standing, balance}
 use Rattle.theory.proofs.Logic.{byTest}
@@ -26,6 +26,11 @@ pub data Floor (I : Instance) : ℕ → List ℕ → Type 0 where
   unfailed : Floor I 0 []
   showed : (f : ℕ) (g : List ℕ) → Shows I f g → Floor I (suc f) g
 
+-- the counts shown with a level: none where it is the standing one, which no trial gave, and otherwise those that its trial made
+pub data Counts (I : Instance) (x : Assignment) : ℕ → ℕ → ℕ → Type 0 where
+  untried : Counts I x (makespan I x) 0 0
+  made : (a : ℕ) → Counts I x a (ended I x a .lifts) (ended I x a .pushes)
+
 module _ (I : Instance) (x : Assignment) (v : Valid I) (w : Permitted I x) where
   pub record Kept (s : Search) : Type 0 where
     pub gap : s .failed1 ≤ s .level
@@ -34,6 +39,7 @@ module _ (I : Instance) (x : Assignment) (v : Valid I) (w : Permitted I x) where
     pub loads : (i : ℕ) → 0 < i → i ≤ I .m → load I (s .assignment) i ≤ s .level + longest I
     pub noLater : makespan I (s .assignment) ≤ makespan I x
     pub floor : Floor I (s .failed1) (s .group)
+    pub counts : Counts I x (s .level) (s .lifts) (s .pushes)
     pub lifts : s .lifts ≤ liftBound I
     pub pushes : s .pushes ≤ pushBound I
 
@@ -45,6 +51,7 @@ module _ (I : Instance) (x : Assignment) (v : Valid I) (w : Permitted I x) where
     loads = λ i p q. omega (arith, makespan-ge I x i p q);
     noLater = le-refl _;
     floor = unfailed;
+    counts = untried;
     lifts = omega arith;
     pushes = omega arith;
   }
@@ -58,6 +65,7 @@ module _ (I : Instance) (x : Assignment) (v : Valid I) (w : Permitted I x) where
     loads = p .loads;
     noLater = pass-no-later I x v w a p;
     floor = k .floor;
+    counts = made a;
     lifts = trial-lifts I x v w a;
     pushes = trial-pushes I x v w a;
   }
@@ -68,6 +76,7 @@ module _ (I : Instance) (x : Assignment) (v : Valid I) (w : Permitted I x) where
     loads = k .loads;
     noLater = k .noLater;
     floor = showed a g (f .shows);
+    counts = k .counts;
     lifts = k .lifts;
     pushes = k .pushes;
   }

@@ -25,7 +25,7 @@ use Rattle.theory.proofs.Makespan.{makespan-le, longest-some, longest-m
 use Rattle.theory.proofs.Settling.{settle-permitted, settle-equilibrium, settle-moves, settle-no-later}
 use Rattle.theory.proofs.Confined.{ceil-gt, share-makespan}
 use Rattle.theory.proofs.Trial.{Shows, shows-late}
-use Rattle.theory.proofs.Balancing.{Floor, unfailed, showed, Found, balance-found}
+use Rattle.theory.proofs.Balancing.{Floor, unfailed, showed, Counts, Found, balance-found}
 
 -- ---- the lower bound
 
@@ -93,6 +93,11 @@ module _ (I : Instance) (x : Assignment) (v : Valid I) (w : Permitted I x) where
   pub plan-moves : 2 * plan I x .moves ≤ squares I (balance I x .assignment)
   unfolding plan
   plan-moves = settle-moves v (found .kept .permitted)
+
+  -- the counts are those that the trial of the level kept made
+  pub plan-counts : Counts I x (plan I x .level) (plan I x .lifts) (plan I x .pushes)
+  unfolding plan
+  plan-counts = found .kept .counts
 
   pub plan-lifts : plan I x .lifts ≤ liftBound I
   unfolding plan

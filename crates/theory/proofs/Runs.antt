@@ -17,11 +17,12 @@ use Rattle.rules.specs.Group.{trial}
 use Rattle.rules.specs.LowerBound.{witnessed}
 use Rattle.rules.specs.Run.{Call, editing, reviewing, trying, planning, next, bookAfter, editBook, planBook, withPlaces}
 use Rattle.theory.proofs.Valid.{Valid, Permitted}
-use Rattle.theory.proofs.Sound.{read-sound, edit-sound, sound-valid, sound-permitted, placed-sound}
+use Rattle.theory.proofs.Sound.{read-sound, edit-sound, sound-valid, sound-permitted, placed-sound, placed-places, placed-instance, jobs-count}
 use Rattle.theory.proofs.Review.{Improves, review-settled, settled-review, settled-none, none-settled}
 use Rattle.theory.proofs.Ending.{trial-lifts, trial-pushes}
 use Rattle.theory.proofs.Trial.{Outcome, outcome, trial-permitted}
-use Rattle.theory.proofs.Planning.{plan-permitted, plan-settled, plan-makespan, plan-no-later, plan-close, plan-bound-below, plan-near-bound, plan-witness}
+use Rattle.theory.proofs.Balancing.{Counts}
+use Rattle.theory.proofs.Planning.{plan-permitted, plan-settled, plan-counts, plan-makespan, plan-no-later, plan-close, plan-bound-below, plan-near-bound, plan-witness}
 
 -- ---- what is claimed on a book
 
@@ -33,12 +34,16 @@ pub record Trials (k : Book) : Type 0 where
   pub permitted : Permitted (instance k) (places k)
   pub outcomes : (a : ℕ) → Outcome (instance k) (places k) valid permitted a (trial (instance k) (places k) a)
 
--- of planning, on any book
+-- of planning, on any book; the counts it shows are those that the trial of its level made
 pub record Plans (k : Book) : Type 0 where
   pub noLater : planBook k .makespan ≤ makespan (instance k) (places k)
   pub permitted : Permitted (instance k) (planBook k .assignment)
   pub makespan : planBook k .makespan ≡ makespan (instance k) (planBook k .assignment)
   pub settled : equilibrium (instance k) (planBook k .assignment) ≡ true
+  -- the book after it has these places, and differs in nothing else that plans look at
+  pub entered : places (next k planning) ≡ planBook k .assignment
+  pub same : instance (next k planning) ≡ instance k
+  pub counts : Counts (instance k) (places k) (planBook k .level) (planBook k .lifts) (planBook k .pushes)
 
 -- of planning, on a book with a batch: at most longest − 1 above any permitted plan, and above the lower bound
 pub record Bounds (k : Book) : Type 0 where
@@ -60,6 +65,14 @@ pub record Claims (k : Book) : Type 0 where
   pub trials : Trials k
   pub plans : Plans k
   pub bounds : 0 < n (instance k) → Bounds k
+
+next-places : (k : Book) → Permitted (instance k) (planBook k .assignment) → places (next k planning) ≡ planBook k .assignment
+unfolding next
+next-places k w = placed-places k (planBook k .assignment) (w .size ∙ jobs-count k)
+
+next-instance : (k : Book) → instance (next k planning) ≡ instance k
+unfolding next
+next-instance k = placed-instance k (planBook k .assignment)
 
 pub sound-claims : (k : Book) → sound k ≡ true → Claims k
 sound-claims k e =
@@ -85,6 +98,9 @@ sound-claims k e =
         permitted = plan-permitted I x v w;
         makespan = plan-makespan I x v w;
         settled = plan-settled I x v w;
+        entered = next-places k (plan-permitted I x v w);
+        same = next-instance k;
+        counts = plan-counts I x v w;
       };
       bounds = λ some. record {
         close = plan-close I x v w some;

@@ -3,7 +3,7 @@
 use mathlib.Core.Path.{sym}
 use lib.Seq.{length-take-le}
 use native.Mathlib.Omega.{arith}
-use Rattle.probe.proofs.Accepted.{accepted-sound}
+use Rattle.sheet.proofs.Keeps.{accepted-sound}
 use borrow.Author.Needs.{needs}
 use Rattle.probe.proofs.case.Statement.{statement}
 use Rattle.probe.proofs.case.Tie as tie

@@ -1,6 +1,7 @@
 -- `probe::content::write` is safe: a sound sheet has at most 200 batches.
 -- Assumes nothing.
-use Rattle.probe.proofs.Few.{few}
+use native.Mathlib.Omega.{arith}
+use Rattle.sheet.proofs.Shown.{view-batches}
 use borrow.Author.Needs.{needs}
 use Rattle.probe.proofs.content.write.Statement.{statement}
 use Rattle.probe.proofs.content.write.Tie as tie
@@ -26,7 +27,7 @@ pair-requires c κs = search needs
 batches-requires-2 : tie.Need-batches-requires-2
 batches-requires-2 c κs =
     let b = c .before .before .before .before .before .before .before .before .before .before .before .before in
-    few _ _ (b .before .before .pre) (b .batches .ensures)
+    omega (arith, view-batches _ (b .before .before .pre), b .batches .ensures)
 
 same-length : tie.Need-same-length
 same-length c = search needs

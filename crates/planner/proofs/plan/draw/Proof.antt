@@ -1,0 +1,86 @@
+-- The figures of the search, of settling after it, and of the group.
+-- Assumes nothing.
+use Prim.Native.Nat.{_≤_}
+use lib.ListN.{length}
+use mathlib.Core.Path.{_≡_, sym, _∙_}
+use native.Mathlib.Omega.{arith}
+use Rattle.planner.proofs.Drawing.{most-is, finish-is, most-few, finish-few, sought-placing, sought-known, drawn}
+use borrow.Author.Needs.{needs}
+use Rattle.planner.proofs.plan.draw.Statement.{statement}
+use Rattle.planner.proofs.plan.draw.Tie as tie
+
+largest-requires : tie.Need-largest-requires
+largest-requires c κs = c .before .before .pre .1 .0
+
+slice-aggregate-largest-load : tie.Need-slice-aggregate-largest-load
+slice-aggregate-largest-load c = search needs
+
+largest-load-requires : tie.Need-largest-load-requires
+largest-load-requires c κs = let st = c .before .before .before .before .pre .0 .1 in omega (arith, st .reads .few)
+
+balance-requires : tie.Need-balance-requires
+balance-requires c κs =
+    let p = c .before .before .before .before .before .pre in
+    let st = p .0 .1 in
+    let most = c .before .before .largest .ensures ∙ most-is st in
+    let finish = c .largest-load .ensures ∙ finish-is st in
+    ((p .0 .0, st, most, finish), (p .1 .0, p .1 .1, omega (arith, most-few st), omega (arith, finish-few st)))
+
+settle-requires : tie.Need-settle-requires
+settle-requires c κs =
+    let p = c .before .before .before .before .before .before .before .before .pre in
+    let st = p .0 .1 in
+    let most = c .before .before .before .before .before .largest .ensures ∙ most-is st in
+    let finish = c .before .before .before .largest-load .ensures ∙ finish-is st in
+    sought-known st (c .before .before .balance .ensures (p .0 .0) st most finish) (p .1 .0) (p .1 .1) (let z : length (c .before .before .balance .result .loads) ≡ 24 = search needs in omega (arith, st .reads .few))
+
+members-of-requires : tie.Need-members-of-requires
+members-of-requires c κs = c .before .before .before .before .before .before .before .before .before .pre .0 .1 .reads .few
+
+cast-bound-of : tie.Need-cast-bound-of
+cast-bound-of c = search needs
+
+bound-of-requires : tie.Need-bound-of-requires
+bound-of-requires c κs =
+    let p = c .before .before .before .before .before .before .before .before .before .before .before .pre in
+    let st = p .0 .1 in
+    (c .before .members-of .ensures .few, st .reads .most, p .1 .0, p .1 .1, st .reads .words)
+
+slice-aggregate-largest-load-2 : tie.Need-slice-aggregate-largest-load-2
+slice-aggregate-largest-load-2 c = search needs
+
+largest-load-requires-2 : tie.Need-largest-load-requires-2
+largest-load-requires-2 c κs =
+    let p = c .before .before .before .before .before .before .before .before .before .before .before .before .before .before .before .before .pre in
+    let st = p .0 .1 in
+    let most = c .before .before .before .before .before .before .before .before .before .before .before .before .before .largest .ensures ∙ most-is st in
+    let finish = c .before .before .before .before .before .before .before .before .before .before .before .largest-load .ensures ∙ finish-is st in
+    let found = c .before .before .before .before .before .before .before .before .before .before .balance .ensures (p .0 .0) st most finish in
+    let k = sought-placing st found (let y = c .before .before .before .before .before .before .before .before .left in let x = c .before .before .before .before .before .before .before .before .before .before .balance in let z : length (c .before .before .before .before .before .before .before .before .before .before .balance .result .loads) ≡ 24 = search needs in omega (arith, st .reads .few)) in
+    c .before .before .before .before .before .before .before .settle .ensures (p .0 .0) (st .reads) k .placing .long
+
+returns : tie.Need-returns
+returns c = λ I st.
+    let most = c .before .before .before .before .before .before .before .before .before .before .before .before .before .before .largest .ensures ∙ most-is st in
+    let finish = c .before .before .before .before .before .before .before .before .before .before .before .before .largest-load .ensures ∙ finish-is st in
+    let found = c .before .before .before .before .before .before .before .before .before .before .before .balance .ensures I st most finish in
+    let k = sought-placing st found (let y = c .before .before .before .before .before .before .before .before .before .left in let x = c .before .before .before .before .before .before .before .before .before .before .before .balance in let z : length (c .before .before .before .before .before .before .before .before .before .before .before .balance .result .loads) ≡ 24 = search needs in omega (arith, st .reads .few)) in
+    let g = c .before .before .before .before .before .before .before .members-of .ensures in
+    drawn st found (c .before .before .before .before .before .before .before .before .settle .ensures I (st .reads) k) g
+    (c .before .before .before .before .before .bound-of .ensures I _ _ (st .reads) (found .isSet) (g .count) most) (c .largest-load2 .ensures)
+
+pub draw-spec : {M : Type 1} → statement M
+draw-spec =
+    tie.close
+    (tie.spec
+    largest-requires
+    slice-aggregate-largest-load
+    largest-load-requires
+    balance-requires
+    settle-requires
+    members-of-requires
+    cast-bound-of
+    bound-of-requires
+    slice-aggregate-largest-load-2
+    largest-load-requires-2
+    returns)

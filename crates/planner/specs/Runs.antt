@@ -1,0 +1,86 @@
+-- Lists of calls on sheets (document 01, "Runs"): what the functions return, each call as a link from sheet to sheet, and what is
+-- claimed of a whole list.
+-- Assumes nothing.
+use Prim.Native.Nat.{ℕ}
+use mathlib.Core.Path.{_≡_}
+use mathlib.Core.List.{List, [], _∷_, map}
+use lib.ListN.{take}
+use lib.Dec.{eqb}
+use Rattle.rules.specs.Fold.{pick}
+use Rattle.rules.specs.Sheet.{Book, size}
+use Rattle.rules.specs.Edit.{Edit}
+use Rattle.rules.specs.Read.{read, accepted}
+use Rattle.rules.specs.Run.{Call, answer, next, bookAfter, answers, answerNumbers}
+use Rattle.rules.specs.Run as R
+use Rattle.theory.proofs.Runs.{Claims}
+use Rattle.sheet.specs.declared.Sheet.{Sheet}
+use Rattle.sheet.specs.declared.Edited.{Edited}
+use Rattle.sheet.specs.Represent.{Sound, sheetOf, bookOf}
+use Rattle.sheet.specs.Answers.{numberOf, editOf}
+use Rattle.planner.specs.declared.Tried.{Tried}
+use Rattle.planner.specs.declared.Planned.{Planned}
+use Rattle.planner.specs.declared.review.Reviewed.{Reviewed}
+use Rattle.planner.specs.Calls.{reviewOf, trialOf, planOf}
+
+-- what a call's function returns
+pub data Reply : Type 0 where
+  edited : Edited → Reply
+  reviewed : Reviewed → Reply
+  tried : Tried → Reply
+  planned : Planned → Reply
+
+-- A call on a sheet, its reply, and the sheet that the next call gets: the reply is what the function promises, word for word, and
+-- the next sheet is the one in it; review and a trial return none, so it is the same.
+pub data Link : Sheet → Call → Reply → Sheet → Type 0 where
+  editing : (s : Sheet) (e : Edit) (r : Edited) → r ≡ editOf s e → Link s (R.editing e) (edited r) (r .sheet)
+  reviewing : (s : Sheet) (r : Reviewed) → r ≡ reviewOf (bookOf s) → Link s R.reviewing (reviewed r) s
+  trying : (s : Sheet) (a : ℕ) (r : Tried) → r ≡ trialOf (bookOf s) a → Link s (R.trying a) (tried r) s
+  planning : (s : Sheet) (r : Planned) → r ≡ planOf (bookOf s) → Link s R.planning (planned r) (r .sheet)
+
+-- a list of calls from sheet to sheet
+pub data Chain : Sheet → List Call → List Reply → Sheet → Type 0 where
+  end : {s : Sheet} → Chain s [] [] s
+  link : {s t u : Sheet} {c : Call} {r : Reply} {cs : List Call} {rs : List Reply} → Link s c r t → Chain t cs rs u
+      → Chain s (c ∷ cs) (r ∷ rs) u
+
+-- ---- a reply as document 01's numbers: the refusal first, 0 for none, and then its values; k is the book before the call
+
+-- 1 for a pass, 0 for a failure; lifts, pushes; the places, or the group
+abbrev pub triedFigures : Book → Tried → List ℕ
+triedFigures k t = pick (t .passed) (1 ∷ t .lifts ∷ t .pushes ∷ take (size k) (t .places)) (0 ∷ t .lifts ∷ t .pushes ∷ take (t .size) (t .group))
+
+abbrev pub replyNumbers : Book → Reply → List ℕ
+replyNumbers k (edited r) = numberOf (r .refusal) ∷ []
+replyNumbers k (reviewed r) = 0 ∷ r .makespan ∷ r .improving ∷ take (k .m) (r .loads)
+replyNumbers k (tried r) = pick (eqb (numberOf (r .refusal)) 0) (0 ∷ triedFigures k r) (numberOf (r .refusal) ∷ [])
+replyNumbers k (planned r) =
+    0 ∷ r .makespan ∷ r .bound ∷ r .level ∷ r .lifts ∷ r .pushes ∷ r .moves ∷ r .size ∷ take (r .size) (r .group)
+
+-- the replies of a list of calls from the book k on
+unfoldable pub chainNumbers : Book → List Call → List Reply → List (List ℕ)
+chainNumbers k [] rs = []
+chainNumbers k (c ∷ cs) [] = []
+chainNumbers k (c ∷ cs) (r ∷ rs) = replyNumbers k r ∷ chainNumbers (next k c) cs rs
+
+-- ---- what is claimed
+
+-- the sheet s holds the book k, on which all claims about reviews, trials and planning hold
+pub record Stands (k : Book) (s : Sheet) : Type 0 where
+  pub sound : Sound s
+  pub sheet : s ≡ sheetOf k
+  pub book : bookOf s ≡ k
+  pub claims : Claims k
+
+-- before each call the sheet holds the book, the reply is the book's answer, and the sheet after it holds the book after it
+pub data Holds : Book → Sheet → List Call → List Reply → Sheet → Type 0 where
+  end : {k : Book} {s : Sheet} → Stands k s → Holds k s [] [] s
+  call : {k : Book} {s t u : Sheet} {c : Call} {r : Reply} {cs : List Call} {rs : List Reply} → Stands k s → Link s c r t
+      → replyNumbers k r ≡ answerNumbers (answer k c) → Holds (next k c) t cs rs u → Holds k s (c ∷ cs) (r ∷ rs) u
+
+-- demand 3 of a run from the bytes of a file: the book that they say, what holds at each call, the sheet at the end, and all replies
+pub record Whole (bytes : List ℕ) (s : Sheet) (cs : List Call) (rs : List Reply) (u : Sheet) : Type 0 where
+  pub book : Book
+  pub file : read bytes ≡ accepted book
+  pub holds : Holds book s cs rs u
+  pub sheet : u ≡ sheetOf (bookAfter book cs)
+  pub replies : chainNumbers book cs rs ≡ map answerNumbers (answers book cs)

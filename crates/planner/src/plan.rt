@@ -1,0 +1,63 @@
+// Planning over arrays: the search over levels, then settling what it leaves.
+ghost use mathlib.Core.Path.{_≡_};
+ghost use Prim.Native.Nat.{ℕ, _≤_};
+ghost use lib.ListN.{length, take};
+ghost use Rattle.rules.specs.Instance.{Instance};
+ghost use Rattle.trials.specs.Attempt.{Standing};
+ghost use Rattle.planner.specs.Drawing.{Draws};
+use crate::balance::balance;
+use crate::settle::settle;
+use arrays::scan::largest;
+use arrays::scan::largest_load;
+use trials::group::bound_of;
+use trials::group::members_of;
+
+// A plan's numbers, its group as a list with its size, and its places.
+pub struct Drawn {
+    pub makespan: u32,
+    pub bound: u32,
+    pub level: u32,
+    pub lifts: u32,
+    pub pushes: u32,
+    pub moves: u64,
+    pub size: usize,
+    pub group: [u8; 24],
+    pub places: [u8; 200],
+}
+
+// The plan from these places, whose loads are `loads`.
+pub fn draw(
+    places: [u8; 200],
+    loads: [u32; 24],
+    minutes: &[u16],
+    masks: &[u32],
+    m: usize,
+    n: usize,
+) -> Drawn
+    requires { ⌜ ((I : Instance) × Standing I m n (now minutes) (now masks) places loads) ⌝ }
+    requires { ⌜ (n ≤ length (now minutes)) × (n ≤ length (now masks)) ⌝ }
+    ensures { λ r. ⌜ ((I : Instance) → Standing I m n (now (minutes .entry)) (now (masks .entry)) places loads → Draws I n (take n places) r) ⌝ }
+{
+    let most = largest(minutes, n);
+    let finish = largest_load(&loads, m);
+    let s = balance(places, loads, minutes, masks, m, n, most, finish);
+    let kept = s.places;
+    let left = s.loads;
+    let z = settle(kept, left, minutes, masks, n, m);
+    let g = members_of(s.group, m);
+    let bound = bound_of(most, minutes, masks, n, s.group, g.size as u32);
+    let ends = z.loads;
+    let list = g.list;
+    let end = z.places;
+    Drawn {
+        makespan: largest_load(&ends, m),
+        bound,
+        level: s.level,
+        lifts: s.lifts,
+        pushes: s.pushes,
+        moves: z.moves,
+        size: g.size,
+        group: list,
+        places: end,
+    }
+}
