@@ -1,11 +1,12 @@
 -- A trial as its steps made one after the other: wherever they come to rest is where the trial ends.
 -- Assumes nothing.
-use Prim.Native.Nat.{ℕ, zero, suc, _+_, _≤_}
+use Prim.Native.Nat.{ℕ, zero, suc, _+_, _-_, _≤_}
 use mathlib.Core.Path.{_≡_, refl, sym, ap, _∙_}
 use native.Mathlib.Omega.{arith}
 use Rattle.rules.specs.Instance.{Instance, Assignment}
 use Rattle.rules.specs.Trial.{State, nothing, push, lift, Act, rest, byJob, byMachine, act, after, start, ended, stepsBy, liftBound, pushBound}
 use Rattle.theory.proofs.Valid.{Valid, Permitted}
+use Rattle.theory.proofs.Steps.{made, adds-one}
 use Rattle.theory.proofs.Ending.{trial-rests}
 
 -- t comes from s by steps
@@ -40,7 +41,7 @@ module _ {I : Instance} {a : ℕ} where
   leads-one (step p) e here f = stay f (step p)
   leads-one (step p) e (step q) f = leads-one p e q f
 
-steps-lead : (I : Instance) (a f : ℕ) (s : State) (x : Act) → act I a s ≡ x → Leads I a s (stepsBy I a f s x)
+pub steps-lead : (I : Instance) (a f : ℕ) (s : State) (x : Act) → act I a s ≡ x → Leads I a s (stepsBy I a f s x)
 unfolding stepsBy
 steps-lead I a zero s x e = here
 steps-lead I a (suc f) s rest e = here
@@ -81,3 +82,31 @@ pushes-grow s (byMachine i (lift h)) = omega arith
 pub leads-pushes : {I : Instance} {a : ℕ} {s t : State} → Leads I a s t → s .pushes ≤ t .pushes
 leads-pushes here = omega arith
 leads-pushes {I} {a} (step {s = s} p) = let r = leads-pushes p in omega (arith, pushes-grow s (act I a s))
+
+-- ---- as an equation: each step counts one, so the counts say how many there were
+
+leads-made : {I : Instance} {a : ℕ} {s t : State} → Leads I a s t → made s ≤ made t
+leads-made p = omega (arith, leads-lifts p, leads-pushes p)
+
+steps-rest : (I : Instance) (a k : ℕ) (s : State) → stepsBy I a k s rest ≡ s
+unfolding stepsBy
+steps-rest I a zero s = refl
+steps-rest I a (suc k) s = refl
+
+module _ (I : Instance) (a : ℕ) where
+  -- what acts at s, and then as many steps as were counted
+  first-of : (s t : State) (x : Act) → act I a s ≡ x → Leads I a (after s x) t
+      → t ≡ stepsBy I a (made t - made (after s x)) (after s x) (act I a (after s x)) → t ≡ stepsBy I a (made t - made s) s x
+  unfolding stepsBy
+  first-of s t rest e p q = stay e p ∙ sym (steps-rest I a (made t - made s) s)
+  first-of s t (byJob b d) e p q =
+      let u = after s (byJob b d) in
+      rw (let z : made t - made s ≡ suc (made t - made u) = omega (arith, adds-one I a s _ e tt, leads-made p) in z) q
+  first-of s t (byMachine i d) e p q =
+      let u = after s (byMachine i d) in
+      rw (let z : made t - made s ≡ suc (made t - made u) = omega (arith, adds-one I a s _ e tt, leads-made p) in z) q
+
+  pub leads-steps : {s t : State} → Leads I a s t → t ≡ stepsBy I a (made t - made s) s (act I a s)
+  unfolding stepsBy
+  leads-steps {s} here = rw (let z : made s - made s ≡ 0 = omega arith in z) refl
+  leads-steps {s} {t} (step p) = first-of s t (act I a s) refl p (leads-steps p)

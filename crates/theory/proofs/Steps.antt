@@ -11,7 +11,7 @@ use Rattle.theory.proofs.Step.{Step, step}
 abbrev pub made : State → ℕ
 made s = s .lifts + s .pushes
 
-abbrev Acting : Act → Type 0
+abbrev pub Acting : Act → Type 0
 Acting rest = ⊥
 Acting (byJob b d) = Unit {0}
 Acting (byMachine i d) = Unit {0}
@@ -23,6 +23,10 @@ one-more (Step.jobPush _ _ _ _ _ _ _) c = omega arith
 one-more (Step.jobLift _ _ _ _ _ _ _ _) c = omega arith
 one-more (Step.machinePush _ _ _ _ _ _ _ _ _ _) c = omega arith
 one-more (Step.machineLift _ _ _ _ _ _ _ _ _ _) c = omega arith
+
+-- a step that is not a rest counts one
+pub adds-one : (I : Instance) (a : ℕ) (s : State) (x : Act) → act I a s ≡ x → Acting x → made (after s x) ≡ suc (made s)
+adds-one I a s x e c = rw e at (one-more (step I a s) (rw (← e) at c))
 
 module _ (I : Instance) (a : ℕ) (Inv : State → Type 0) (keep : (s : State) → Inv s → Inv (after s (act I a s))) where
   -- what each step keeps, the run keeps
@@ -37,17 +41,14 @@ module _ (I : Instance) (a : ℕ) (Inv : State → Type 0) (keep : (s : State) �
   run-keeps f s i = kept f s i (act I a s) refl
 
   module _ (most : ℕ) (within : (s : State) → Inv s → made s ≤ most) where
-    more : (s : State) → Inv s → (x : Act) → act I a s ≡ x → Acting x → made (after s x) ≡ suc (made s)
-    more s i x e c = rw e at (one-more (step I a s) (rw (← e) at c))
-
     resting : (f : ℕ) (s : State) → Inv s → most ≤ made s + f → (x : Act) → act I a s ≡ x → act I a (stepsBy I a f s x) ≡ rest
     unfolding stepsBy
     resting zero s i h rest e = e
-    resting zero s i h (byJob b d) e = absurd (omega (arith, more s i _ e tt, within _ (rw e at (keep s i))))
-    resting zero s i h (byMachine b d) e = absurd (omega (arith, more s i _ e tt, within _ (rw e at (keep s i))))
+    resting zero s i h (byJob b d) e = absurd (omega (arith, adds-one I a s _ e tt, within _ (rw e at (keep s i))))
+    resting zero s i h (byMachine b d) e = absurd (omega (arith, adds-one I a s _ e tt, within _ (rw e at (keep s i))))
     resting (suc f) s i h rest e = e
-    resting (suc f) s i h (byJob b d) e = resting f _ (rw e at (keep s i)) (omega (arith, more s i _ e tt)) _ refl
-    resting (suc f) s i h (byMachine b d) e = resting f _ (rw e at (keep s i)) (omega (arith, more s i _ e tt)) _ refl
+    resting (suc f) s i h (byJob b d) e = resting f _ (rw e at (keep s i)) (omega (arith, adds-one I a s _ e tt)) _ refl
+    resting (suc f) s i h (byMachine b d) e = resting f _ (rw e at (keep s i)) (omega (arith, adds-one I a s _ e tt)) _ refl
 
     -- with as many steps as the bound, the run ends where nothing acts
     pub run-rests : (s : State) → Inv s → made s ≡ 0 → act I a (stepsBy I a most s (act I a s)) ≡ rest
