@@ -1,5 +1,5 @@
 #!/usr/bin/env bash
-# Every `file:name` of docs/DEMANDS.md is declared in that file: in Rattle as a function, in antt by its signature.
+# Every `file:name` of docs/DEMANDS.md is declared in that file: in Rattle as a function, constant or struct, in antt by its signature.
 set -euo pipefail
 cd "$(dirname "$0")/.."
 bad=0
@@ -12,7 +12,7 @@ while IFS=: read -r file name; do
         continue
     fi
     case $file in
-        *.rt) pattern="fn $name\\(" ;;
+        *.rt) pattern="(fn $name\\(|const $name:|struct $name \\{)" ;;
         *) pattern="^ *((unfoldable|abbrev|pub) )*(data |record )?$name( \\{[^}]*\\})?( :| \\()" ;;
     esac
     if ! grep -qE -- "$pattern" "$file"; then

@@ -151,11 +151,11 @@ pub fn listing_length(size: usize, n: usize) -> usize
 }
 
 // Writes the one line of a refused sheet at the front of `out`: the refusal's number, and where.
-pub fn put_refusal(out: &mut [u8], number: u8, row: usize)
-    requires { ⌜ (13 ≤ length (now out)) × (row < 1000000) ⌝ }
+pub fn put_refusal(out: &mut [u8], number: u32, row: u32)
+    requires { ⌜ (13 ≤ length (now out)) × (number < 1000000) × (row < 1000000) ⌝ }
     ensures { λ _. ⌜ now (out .exit) ≡ line (number ∷ row ∷ []) ++ drop 13 (now (out .entry)) ⌝ }
 {
-    put_two(out, 0, wide(number), row as u32);
+    put_two(out, 0, number, row);
     put_end(out, 12);
 }
 

@@ -13,7 +13,6 @@ use Rattle.rules.specs.Fold.{pick}
 use Rattle.rules.specs.Sheet.{Book, size, sound}
 use Rattle.rules.specs.Edit as E
 use Rattle.rules.specs.Read.{read, accepted}
-use Rattle.rules.specs.Read as D
 use Rattle.rules.specs.Instance.{instance, places, n}
 use Rattle.rules.specs.Load.{load, review, total}
 use Rattle.rules.specs.Trial.{ended}
@@ -28,9 +27,9 @@ use Rattle.sheet.specs.declared.Sheet.{Sheet}
 use Rattle.sheet.specs.declared.Edited.{Edited}
 use Rattle.sheet.specs.declared.Reading.{Reading}
 use Rattle.sheet.specs.Represent.{Sound, padded, sheetOf, bookOf}
-use Rattle.sheet.specs.Answers.{coded, numberOf, coded-number, editedAs, editOf, readAs, readOf}
+use Rattle.sheet.specs.Answers.{coded, numberOf, coded-number, editedAs, editOf, readOf}
 use Rattle.sheet.specs.declared.Refusal.the-variants.{Nothing}
-use Rattle.sheet.proofs.Keeps.{coded-some}
+use Rattle.sheet.proofs.Accepted.{is-accepted}
 use Rattle.sheet.proofs.Marking.{length-listTo}
 use Rattle.sheet.proofs.Represent.{book-sheet, sheet-sound}
 use Rattle.planner.specs.declared.Tried.{Tried}
@@ -156,14 +155,6 @@ unfolding answers chainNumbers
 chain-answers k (S.end w) = refl
 chain-answers k (call {c = c} w l e h) = rw (e, chain-answers (next k c) h)
 
-accepted-is : (s : List ℕ) (o : D.Reading) → read s ≡ o → readAs o .refusal ≡ Nothing → (k : Book) × (read s ≡ accepted k)
-accepted-is s (accepted k) e q = (k, e)
-accepted-is s (D.refusedAt r j) e q = absurd (omega (arith, coded-some r q))
-
-read-accepted : (s : List ℕ) (r : Reading) → r ≡ readOf s → r .refusal ≡ Nothing → (k : Book) × (read s ≡ accepted k)
-unfolding readOf
-read-accepted s r e q = accepted-is s (read s) refl (ap (λ (x : Reading). x .refusal) (sym e) ∙ q)
-
 read-sheet : (s : List ℕ) (k : Book) → read s ≡ accepted k → readOf s .sheet ≡ sheetOf k
 unfolding readOf
 read-sheet s k e = rw e refl
@@ -172,12 +163,12 @@ read-sheet s k e = rw e refl
 pub run-holds : (s : List ℕ) (r : Reading) → r ≡ readOf s → r .refusal ≡ Nothing
     → {cs : List Call} {rs : List Reply} {u : Sheet} → Chain (r .sheet) cs rs u → Whole s (r .sheet) cs rs u
 run-holds s r e q {cs} {rs} {u} h =
-    let a = read-accepted s r e q in
-    let k = a .0 in
-    let v = chain-holds k (read-sound s k (a .1)) (ap (λ (x : Reading). x .sheet) e ∙ read-sheet s k (a .1)) h in
+    let k = bookOf (r .sheet) in
+    let f = is-accepted s r e q .book in
+    let v = chain-holds k (read-sound s k f) (ap (λ (x : Reading). x .sheet) e ∙ read-sheet s k f) h in
     record {
       book = k;
-      file = a .1;
+      file = f;
       holds = v;
       sheet = chain-sheet k v;
       replies = chain-answers k v;

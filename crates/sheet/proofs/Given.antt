@@ -25,7 +25,7 @@ use Rattle.sheet.proofs.Refusal.{the-type}
 use Rattle.sheet.proofs.Extent.{took, head-near, instruments-near, short, batch-near}
 
 -- no refusal is coded as none
-coded-none : (e : R.Refusal) → coded e ≡ Nothing → ⊥
+pub coded-none : (e : R.Refusal) → coded e ≡ Nothing → ⊥
 coded-none malformed q = let z : _≡_ {A = ℕ} 0 1 = cc in omega arith
 coded-none badSize q = let z : _≡_ {A = ℕ} 0 1 = cc in omega arith
 coded-none badLength q = let z : _≡_ {A = ℕ} 0 1 = cc in omega arith

@@ -13,6 +13,7 @@ pub mod Longest
 pub mod Given
 pub mod Sofar
 pub mod Keeps
+pub mod Accepted
 pub mod Marking
 pub mod Placed
 pub mod Marks

@@ -3,7 +3,7 @@
 use mathlib.Core.Path.{sym}
 use lib.Seq.{length-take-le}
 use native.Mathlib.Omega.{arith}
-use Rattle.sheet.proofs.Keeps.{accepted-sound}
+use Rattle.sheet.proofs.Accepted.{is-accepted}
 use borrow.Author.Needs.{needs}
 use Rattle.probe.proofs.case.Statement.{statement}
 use Rattle.probe.proofs.case.Tie as tie
@@ -40,7 +40,7 @@ part-run-end c = search needs
 
 run-requires : tie.Need-run-requires
 run-requires c κs =
-    accepted-sound _ _ (c .before .before .before .before .before .read .ensures) (c .before .before .before .enum-told .given .1)
+    is-accepted _ _ (c .before .before .before .before .before .read .ensures) (c .before .before .before .enum-told .given .1) .sound
 
 write-requires : tie.Need-write-requires
 write-requires c κs = search needs

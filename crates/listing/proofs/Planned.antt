@@ -1,0 +1,112 @@
+-- The planner's answer and the sheet's arrays, as the listing shows them.
+-- Assumes nothing.
+use Prim.Native.Nat.{ℕ, zero, suc, _+_, _-_, _*_, _≤_}
+use mathlib.Core.Path.{_≡_, refl, ap, _∙_}
+use mathlib.Core.List.{List, map}
+use native.Mathlib.Omega.{arith}
+use lib.ListN.{length, List·getD-map}
+use lib.Seq.{take-at}
+use Rattle.rules.specs.Fold.{at}
+use Rattle.rules.specs.Sheet.{Book, size, batch, noBatchHere}
+use Rattle.rules.specs.Instance.{Job, n, jobOf, instance, minutesOf}
+use Rattle.rules.specs.Instance as In
+use Rattle.rules.specs.Plan.{Plan}
+use Rattle.rules.specs.Run.{planBook, withPlaces}
+use Rattle.rules.specs.Listing.{listing}
+use Rattle.theory.proofs.Valid.{Permitted}
+use Rattle.theory.proofs.Sound.{jobs-count, placed-places}
+use Rattle.theory.proofs.Planning.{plan-permitted}
+use Rattle.sheet.specs.declared.Sheet.{Sheet}
+use Rattle.sheet.specs.Represent.{padded, sheetOf, bookOf, Sound}
+use Rattle.sheet.proofs.Padded.{getD-zeros}
+use Rattle.sheet.proofs.Shown.{minutes-at, view-batches, view-valid, view-permitted, view-placed, view-placed-book}
+use Rattle.planner.specs.declared.Planned.{Planned}
+use Rattle.planner.specs.Calls.{planOf}
+use Rattle.listing.specs.Text.{figures, listingText}
+use Rattle.listing.proofs.Lines.{listing-of, listing-length}
+use Rattle.listing.proofs.Figures.{Fits, plan-fits}
+
+-- ---- arrays that are longer than what they hold
+
+at-padded : (w : ℕ) (l : List ℕ) (b : ℕ) → at (padded w l) b ≡ at l b
+at-padded w l zero = refl
+at-padded w l (suc b) = getD-zeros l (w - length l) b
+
+minutes-of : (k : Book) (b : ℕ) → minutesOf (instance k) b ≡ batch k b .minutes
+minutes-of k zero = refl
+minutes-of k (suc b) = ap (λ (j : Job). j .minutes) (List·getD-map jobOf (k .batches) b noBatchHere)
+
+-- the listing from arrays
+text-of : (k : Book) (p : Plan)
+    → listingText (figures (p .makespan) (p .lowerBound) (p .level) (p .lifts) (p .pushes) (p .moves)) (length (p .group))
+    (padded 24 (p .group)) (size k) (padded 200 (map (λ (j : Job). j .minutes) (instance k .jobs))) (padded 200 (p .assignment))
+    ≡ listing k p
+text-of k p =
+    listing-of k p (padded 24 (p .group)) _ _ (take-at (p .group) _ (length (p .group)) refl)
+    (λ b l u. (at-padded 200 (p .assignment) b, minutes-at (instance k) b ∙ minutes-of k b))
+
+-- ---- a sound sheet, planned
+
+module _ (s : Sheet) (v : Sound s) where
+  new-permitted : Permitted (instance (bookOf s)) (planBook (bookOf s) .assignment)
+  new-permitted = plan-permitted (instance (bookOf s)) (In.places (bookOf s)) (view-valid s v) (view-permitted s v)
+
+  -- the places that its new sheet holds
+  new-places : In.places (bookOf (sheetOf (withPlaces (bookOf s) (planBook (bookOf s) .assignment)))) ≡ planBook (bookOf s) .assignment
+  new-places =
+      ap In.places (view-placed-book s v _ new-permitted)
+      ∙ placed-places (bookOf s) _ (new-permitted .size ∙ jobs-count (bookOf s))
+
+  sound-as : (r : Planned) → r ≡ planOf (bookOf s) → Sound (r .sheet)
+  unfolding planOf
+  sound-as r e = rw e (view-placed s v _ new-permitted)
+
+  -- what the planner answers, with the arrays of the sheet and of the new sheet
+  pub record Answered (r : Planned) (c : ℕ) : Type 0 where
+    pub count : c ≡ size (bookOf s)
+    pub room : c ≤ 200
+    pub makespan : r .makespan ≡ planBook (bookOf s) .makespan
+    pub bound : r .bound ≡ planBook (bookOf s) .lowerBound
+    pub level : r .level ≡ planBook (bookOf s) .level
+    pub lifts : r .lifts ≡ planBook (bookOf s) .lifts
+    pub pushes : r .pushes ≡ planBook (bookOf s) .pushes
+    pub moves : r .moves ≡ planBook (bookOf s) .moves
+    pub size : r .size ≡ length (planBook (bookOf s) .group)
+    pub group : r .group ≡ padded 24 (planBook (bookOf s) .group)
+    pub sheet : r .sheet ≡ sheetOf (withPlaces (bookOf s) (planBook (bookOf s) .assignment))
+    pub sound : Sound (r .sheet)
+    pub fits : Fits (planBook (bookOf s))
+
+  pub answered : (r : Planned) (c : ℕ) → r ≡ planOf (bookOf s) → c ≡ n (instance (bookOf s)) → Answered r c
+  unfolding planOf
+  answered r c e f = record {
+    count = f ∙ jobs-count (bookOf s);
+    room = omega (arith, view-batches s v);
+    makespan = ap (λ (q : Planned). q .makespan) e;
+    bound = ap (λ (q : Planned). q .bound) e;
+    level = ap (λ (q : Planned). q .level) e;
+    lifts = ap (λ (q : Planned). q .lifts) e;
+    pushes = ap (λ (q : Planned). q .pushes) e;
+    moves = ap (λ (q : Planned). q .moves) e;
+    size = ap (λ (q : Planned). q .size) e;
+    group = ap (λ (q : Planned). q .group) e;
+    sheet = ap (λ (q : Planned). q .sheet) e;
+    sound = sound-as r e;
+    fits = plan-fits s v;
+  }
+
+  -- the listing's length, and its text
+  pub answered-length : (r : Planned) (c : ℕ) → Answered r c
+      → length (listing (bookOf s) (planBook (bookOf s))) ≡ 43 + (6 * (r .size + 1) + 1) + 19 * c
+  answered-length r c a =
+      listing-length (bookOf s) (planBook (bookOf s)) ∙ omega (arith, a .size, a .count)
+
+  pub answered-text : (r : Planned) (c : ℕ) (minutes places : List ℕ) → Answered r c
+      → minutes ≡ padded 200 (map (λ (j : Job). j .minutes) (instance (bookOf s) .jobs))
+      → places ≡ padded 200 (In.places (bookOf (r .sheet)))
+      → listingText (figures (r .makespan) (r .bound) (r .level) (r .lifts) (r .pushes) (r .moves)) (r .size) (r .group) c minutes places
+      ≡ listing (bookOf s) (planBook (bookOf s))
+  answered-text r c minutes places a g h =
+      let q : places ≡ padded 200 (planBook (bookOf s) .assignment) =
+      h ∙ ap (λ (t : Sheet). padded 200 (In.places (bookOf t))) (a .sheet) ∙ ap (padded 200) new-places in
+      rw (a .makespan, a .bound, a .level, a .lifts, a .pushes, a .moves, a .size, a .group, a .count, g, q) (text-of (bookOf s) (planBook (bookOf s)))

@@ -1,0 +1,54 @@
+-- The sheet that reading hands on is sound, and a refusal is the rules'.
+-- Assumes nothing.
+use mathlib.Core.Path.{_∙_}
+use native.Mathlib.Omega.{arith}
+use Rattle.sheet.proofs.Given.{some-refusal}
+use Rattle.sheet.proofs.Accepted.{Accepted, is-accepted, Refused, is-refused, refused-line}
+use Rattle.listing.proofs.Hosting.{host-refused, host-listed}
+use borrow.Author.Needs.{needs}
+use Rattle.listing.proofs.host.bankplan_plan.Statement.{statement}
+use Rattle.listing.proofs.host.bankplan_plan.Tie as tie
+
+-- what was refused, and what was read
+refused : (c : tie.After-struct-known) → Refused (c .before .before .before .before .before .args .sheet .now) (c .before .before .read .result)
+refused c = is-refused _ _ (c .before .before .read .ensures) (some-refusal _ (c .before .match .keys2))
+
+taken : (c : tie.After-enum-told) → Accepted (c .before .before .before .before .before .args .sheet .now) (c .before .before .read .result)
+taken c = is-accepted _ _ (c .before .before .read .ensures) (c .enum-told .given .1)
+
+read-requires : tie.Need-read-requires
+read-requires c κs = search needs
+
+enum-told : tie.Need-enum-told
+enum-told c = search needs
+
+cast-line : tie.Need-cast-line
+cast-line c = let f = refused c in omega (arith, refused-line _ _ _ (f .said))
+
+code-requires : tie.Need-code-requires
+code-requires c κs = search needs
+
+returns : tie.Need-returns
+returns c = host-refused _ _ _ _ (refused (c .before)) (c .code .ensures)
+
+list-into-requires : tie.Need-list-into-requires
+list-into-requires c κs = taken (c .before .before) .sound
+
+same-length : tie.Need-same-length
+same-length c = search needs
+
+returns-2 : tie.Need-returns-2
+returns-2 c = c .before .before .list-into .ensures ∙ host-listed _ _ _ (taken (c .before .before .before .before .before) .book)
+
+pub bankplan-plan-spec : {M : Type 1} → statement M
+bankplan-plan-spec =
+    tie.close
+    (tie.spec
+    read-requires
+    enum-told
+    cast-line
+    code-requires
+    returns
+    list-into-requires
+    same-length
+    returns-2)

@@ -1,0 +1,96 @@
+-- The plan's numbers fit their columns, and the text from the arrays is the listing of the sheet's book.
+-- Assumes nothing.
+use native.Mathlib.Omega.{arith}
+use Rattle.sheet.specs.Represent.{bookOf}
+use Rattle.listing.proofs.Planned.{Answered, answered, answered-length, answered-text}
+use Rattle.listing.proofs.Hosting.{into-short, into-long}
+use borrow.Author.Needs.{needs}
+use Rattle.listing.proofs.host.list_into.Statement.{statement}
+use Rattle.listing.proofs.host.list_into.Tie as tie
+
+-- what is planned
+planned : (c : tie.After-batches)
+    → Answered (c .before .before .before .args .sheet) (c .before .before .before .pre) (c .before .plan .result) (c .batches .result)
+planned c = answered _ (c .before .before .before .pre) _ _ (c .before .plan .ensures) (c .batches .ensures)
+
+plan-requires : tie.Need-plan-requires
+plan-requires c κs = search needs
+
+batches-requires : tie.Need-batches-requires
+batches-requires c κs = search needs
+
+listing-length-requires : tie.Need-listing-length-requires
+listing-length-requires c κs = let a = planned c in (omega (arith, a .size, a .fits .few), a .room)
+
+code-requires : tie.Need-code-requires
+code-requires c κs = search needs
+
+returns : tie.Need-returns
+returns c =
+    let at = c .before .before .before in
+    let a = planned at in
+    let l = answered-length _ (at .before .before .before .pre) _ _ a in
+    rw (c .code .ensures) (into-short (bookOf (at .before .before .before .args .sheet)) _ (omega (arith, l)))
+
+minutes-requires : tie.Need-minutes-requires
+minutes-requires c κs = search needs
+
+places-requires : tie.Need-places-requires
+places-requires c κs = let a = planned (c .before .before .before .before) in search needs
+
+slice-aggregate-put-listing : tie.Need-slice-aggregate-put-listing
+slice-aggregate-put-listing c = search needs
+
+slice-aggregate-put-listing-2 : tie.Need-slice-aggregate-put-listing-2
+slice-aggregate-put-listing-2 c = search needs
+
+put-listing-requires : tie.Need-put-listing-requires
+put-listing-requires c κs =
+    let a = planned (c .before .before .before .before .before .before .before .before .before) in
+    let f = a .fits in (
+      omega arith,
+      omega (arith, a .makespan, f .makespan),
+      omega (arith, a .bound, f .bound),
+      omega (arith, a .level, f .level),
+      omega (arith, a .lifts, f .lifts),
+      omega (arith, a .pushes, f .pushes),
+      omega (arith, a .moves, f .moves),
+      omega (arith, a .size, f .few),
+      a .room,
+      omega (arith, a .room),
+      omega (arith, a .room),
+    )
+
+same-length : tie.Need-same-length
+same-length c = search needs
+
+returns-2 : tie.Need-returns-2
+returns-2 c =
+    let at = c .before .before .before .before .before .before .before .before .before .before .before .before in
+    let v = at .before .before .before .pre in
+    let a = planned at in
+    let l = answered-length _ v _ _ a in
+    let t =
+    answered-text _ v _ _ _ _ a (c .before .before .before .before .before .before .before .before .before .minutes .ensures)
+    (c .before .before .before .before .before .before .before .places .ensures) in
+    let i = c .before .before .before .before .before .before .before .before .before .before .if1 in
+    let d = c .before .before .before .before .before .before .before .before .before .before .before .listing-length .ensures in
+    into-long (bookOf (at .before .before .before .args .sheet)) _ _ _ _ (omega (arith, l)) t (c .before .before .put-listing .ensures .0)
+    (c .before .before .put-listing .ensures .1)
+
+pub list-into-spec : {M : Type 1} → statement M
+list-into-spec =
+    tie.close
+    (tie.spec
+    plan-requires
+    batches-requires
+    listing-length-requires
+    code-requires
+    returns
+    minutes-requires
+    places-requires
+    slice-aggregate-put-listing
+    slice-aggregate-put-listing-2
+    put-listing-requires
+    same-length
+    returns-2)

@@ -1,0 +1,50 @@
+-- The buffer is long enough for every listing, so what the host refuses is a sheet.
+-- Assumes nothing.
+use native.Mathlib.Omega.{arith}
+use Rattle.listing.proofs.Printing.{is-listed, Unlisted, is-unlisted, row-printed, program-short}
+use borrow.Author.Needs.{needs}
+use Rattle.listing.proofs.print.print.Statement.{statement}
+use Rattle.listing.proofs.print.print.Tie as tie
+
+-- the sheet was refused
+unlisted : (c : tie.Else1)
+    → Unlisted (c .before .before .before .before .before .before .before .args .sheet .now)
+    (c .before .before .before .before .before .before .before .args .out .now) (c .before .before .before .bankplan-plan .result)
+    (c .before .before .before .bankplan-plan .last .1 .0)
+unlisted c =
+    is-unlisted _ _ _ _ (c .before .before .before .bankplan-plan .ensures)
+    (c .before .before .before .before .before .before .before .pre) (λ z. omega arith)
+
+bankplan-plan-requires : tie.Need-bankplan-plan-requires
+bankplan-plan-requires c κs = search needs
+
+same-length : tie.Need-same-length
+same-length c = search needs
+
+returns : tie.Need-returns
+returns c =
+    let start = c .before .before .before .before .before .before .before in
+    let l = is-listed _ _ _ _ (c .before .before .before .bankplan-plan .ensures) (start .pre) (omega arith) in
+    (l .count, (omega (arith, l .count, program-short (start .args .sheet .now)), l .text))
+
+put-refusal-requires : tie.Need-put-refusal-requires
+put-refusal-requires c κs = let u = unlisted (c .before) in (omega arith, omega arith, omega arith)
+
+same-length-2 : tie.Need-same-length-2
+same-length-2 c = search needs
+
+returns-2 : tie.Need-returns-2
+returns-2 c =
+    let r = row-printed _ _ _ _ _ (unlisted (c .before .before .before .before)) (c .before .before .put-refusal .ensures) in
+    (r .0, (omega arith, r .1))
+
+pub print-spec : {M : Type 1} → statement M
+print-spec =
+    tie.close
+    (tie.spec
+    bankplan-plan-requires
+    same-length
+    returns
+    put-refusal-requires
+    same-length-2
+    returns-2)

@@ -1,0 +1,74 @@
+-- What reading answers: a sound sheet of the book that the rules give, or the rules' refusal, whose line is at most 202.
+-- Assumes nothing.
+use Prim.Native.Nat.{ℕ, zero, suc, _+_, _≤_}
+use mathlib.Core.Path.{_≡_, refl, sym, ap, _∙_}
+use mathlib.Core.List.{List, [], _∷_, _++_}
+use native.Mathlib.Omega.{arith}
+use lib.ListN.{drop}
+use Rattle.rules.specs.Refusal.{number}
+use Rattle.rules.specs.Refusal as R
+use Rattle.rules.specs.Sheet.{Batch}
+use Rattle.rules.specs.Read.{Part, accepted, refusedAt, onLine, batchLines, read}
+use Rattle.rules.specs.Read as D
+use Rattle.theory.proofs.Sound.{read-sound}
+use Rattle.sheet.specs.declared.Reading.{Reading}
+use Rattle.sheet.specs.declared.Refusal.the-variants.{Nothing}
+use Rattle.sheet.specs.Represent.{Sound, bookOf}
+use Rattle.sheet.specs.Answers.{coded-number, numberOf, readAs, readOf}
+use Rattle.sheet.proofs.Represent.{book-sheet, sheet-sound}
+use Rattle.sheet.proofs.Extent.{Near, refuse, give, head-near, batch-near}
+use Rattle.sheet.proofs.Given.{coded-none}
+
+-- ---- a sheet that is not refused
+
+pub record Accepted (s : List ℕ) (r : Reading) : Type 0 where
+  pub sound : Sound (r .sheet)
+  pub book : read s ≡ accepted (bookOf (r .sheet))
+
+by-case : (s : List ℕ) (r : Reading) (o : D.Reading) → read s ≡ o → r ≡ readAs o → r .refusal ≡ Nothing → Accepted s r
+by-case s r (accepted k) e f q =
+    let v = read-sound s k e in
+    rw f (record { sound = sheet-sound k v; book = e ∙ ap accepted (sym (book-sheet k v)) })
+by-case s r (refusedAt g j) e f q = absurd (coded-none g (sym (ap (λ (t : Reading). t .refusal) f) ∙ q))
+
+pub is-accepted : (s : List ℕ) (r : Reading) → r ≡ readOf s → r .refusal ≡ Nothing → Accepted s r
+unfolding readOf
+is-accepted s r e q = by-case s r (read s) refl e q
+
+-- ---- a refusal
+
+pub record Refused (s : List ℕ) (r : Reading) : Type 0 where
+  pub refusal : R.Refusal
+  pub coded : numberOf (r .refusal) ≡ number refusal
+  pub said : read s ≡ refusedAt refusal (r .line)
+
+or-refused : (s : List ℕ) (r : Reading) (o : D.Reading) → read s ≡ o → r ≡ readAs o → (r .refusal ≡ Nothing → ⊥) → Refused s r
+or-refused s r (accepted k) e f n = absurd (n (ap (λ (t : Reading). t .refusal) f))
+or-refused s r (refusedAt g j) e f n = rw f (record { refusal = g; coded = coded-number g; said = e })
+
+pub is-refused : (s : List ℕ) (r : Reading) → r ≡ readOf s → (r .refusal ≡ Nothing → ⊥) → Refused s r
+unfolding readOf
+is-refused s r e n = or-refused s r (read s) refl e n
+
+-- ---- the line of a refusal
+
+line-most : {X : Type 0} {P : X → Type 0} {b w : ℕ} {r : List ℕ} {p q : Part X} {g : R.Refusal} {i : ℕ} (j c : ℕ)
+    (f : X → List ℕ → D.Reading) → Near P b w r p q → onLine j p f ≡ refusedAt g i → j ≤ c
+    → ((x : X) (k : ℕ) → P x → f x (drop k r) ≡ refusedAt g i → i ≤ c) → i ≤ c
+line-most {i = i} j c f (refuse g) e l n = let z : j ≡ i = cc in omega arith
+line-most j c f (give x k a u v) e l n = n x k a e
+
+lines-most : (m c j : ℕ) (bs : List Batch) (r : List ℕ) (g : R.Refusal) (i : ℕ) → m ≤ 24
+    → batchLines m c j bs r ≡ refusedAt g i → i ≤ j + c
+unfolding batchLines
+lines-most m zero j bs [] g i h e = absurd (let z : _≡_ {A = ℕ} 0 1 = cc in omega arith)
+lines-most m zero j bs (x ∷ r) g i h e = let z : j ≡ i = cc in omega arith
+lines-most m (suc c) j bs r g i h e =
+    line-most j (j + suc c) _ (batch-near m 163 r h (omega arith)) e (omega arith)
+    (λ b k a d. omega (arith, lines-most m c (suc j) (bs ++ (b ∷ [])) (drop k r) g i h d))
+
+pub refused-line : (s : List ℕ) (g : R.Refusal) (i : ℕ) → read s ≡ refusedAt g i → i ≤ 202
+unfolding read
+refused-line s g i e =
+    line-most 1 202 _ (head-near 13 s (omega arith)) e (omega arith)
+    (λ h k a d. omega (arith, a .batches, lines-most (h .m) (h .n) 2 [] (drop k s) g i (a .instruments) d))

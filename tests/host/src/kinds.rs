@@ -1,0 +1,128 @@
+//! Kinds of sheets at the limits: 24 instruments and 200 batches.
+
+use second::rng::Rng;
+use second::{gen, Draft, Line};
+
+#[derive(Clone, Copy, Debug)]
+pub enum Lists {
+    /// Of one to three instruments.
+    Short,
+    /// Of 20 to 24.
+    Long,
+}
+
+#[derive(Clone, Copy, Debug)]
+pub enum Lengths {
+    /// All the same.
+    Equal,
+    /// Quarters of an hour, up to four hours.
+    Round,
+    /// Any.
+    Random,
+}
+
+#[derive(Clone, Copy, Debug)]
+pub enum Places {
+    /// One of the list.
+    Given,
+    /// 0: the first listed.
+    Open,
+    /// All on one instrument, which is in every list.
+    Crowded,
+}
+
+#[derive(Clone, Copy, Debug)]
+pub struct Kind {
+    pub lists: Lists,
+    pub lengths: Lengths,
+    pub places: Places,
+}
+
+impl Kind {
+    /// Every kind.
+    pub fn all() -> Vec<Kind> {
+        let mut kinds = Vec::new();
+        for places in [Places::Given, Places::Open, Places::Crowded] {
+            for lists in [Lists::Short, Lists::Long] {
+                for lengths in [Lengths::Equal, Lengths::Round, Lengths::Random] {
+                    kinds.push(Kind {
+                        lists,
+                        lengths,
+                        places,
+                    });
+                }
+            }
+        }
+        kinds
+    }
+
+    pub fn name(&self) -> String {
+        let lists = match self.lists {
+            Lists::Short => "short lists",
+            Lists::Long => "long lists",
+        };
+        let lengths = match self.lengths {
+            Lengths::Equal => "equal lengths",
+            Lengths::Round => "round lengths",
+            Lengths::Random => "random lengths",
+        };
+        let places = match self.places {
+            Places::Given => "places given",
+            Places::Open => "places not given",
+            Places::Crowded => "one crowded",
+        };
+        format!("{lists}, {lengths}, {places}")
+    }
+
+    /// A sheet of this kind.
+    pub fn sheet(&self, rng: &mut Rng) -> Vec<u8> {
+        let m = 24;
+        let usual = rng.within(1, 1440);
+        let crowded = rng.within(1, m);
+        let line = |_| {
+            let count = match self.lists {
+                Lists::Short => rng.within(1, 3),
+                Lists::Long => rng.within(20, m),
+            };
+            let mut list = gen::list(rng, m, count);
+            let place = match self.places {
+                Places::Given => *rng.pick(&list),
+                Places::Open => 0,
+                Places::Crowded => {
+                    if !list.contains(&crowded) {
+                        list[0] = crowded;
+                    }
+                    crowded
+                }
+            };
+            let length = match self.lengths {
+                Lengths::Equal => usual,
+                Lengths::Round => 15 * rng.within(1, 16),
+                Lengths::Random => rng.within(1, 1440),
+            };
+            Line {
+                length,
+                place,
+                list,
+            }
+        };
+        let lines = (0..200).map(line).collect();
+        Draft {
+            instruments: m,
+            lines,
+        }
+        .render()
+    }
+}
+
+/// The hard shape of this seed.
+pub fn hard(seed: u64) -> Vec<u8> {
+    Draft::from(&gen::hard(seed)).render()
+}
+
+/// A sheet of this kind whose last byte, and nothing before it, is a fault.
+pub fn last_byte_wrong(kind: &Kind, rng: &mut Rng) -> Vec<u8> {
+    let mut sheet = kind.sheet(rng);
+    *sheet.last_mut().expect("a last line") = b' ';
+    sheet
+}

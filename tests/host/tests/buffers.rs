@@ -1,0 +1,250 @@
+//! Buffers of every size, memory around buffer and sheet, and planners that
+//! cheat and must be caught.
+
+use std::hint::black_box;
+
+use against::cases;
+use host::check::{Expected, Judge, Met};
+use host::kinds::{Kind, Lengths, Lists, Places};
+use host::listing::MOST;
+use host::{plan, Hosted};
+use second::gen;
+use second::rng::Rng;
+
+/// The sheet of the paper's first case.
+const SHEET: &[u8] = b"     2     3
+    30     1     2     1     2
+    20     1     1     1
+    10     1     2     1     2
+";
+
+/// From none to three bytes more than the listing has.
+#[test]
+fn every_size() {
+    let mut judge = Judge::new(plan);
+    let (mut short, mut enough, mut bad) = (0, 0, 0);
+    let mut rng = Rng::new(11);
+    let mut sheets: Vec<Vec<u8>> = cases::sound(12, 60)
+        .into_iter()
+        .chain(cases::faulty(13, 60))
+        .map(|case| case.sheet)
+        .collect();
+    let kind = Kind {
+        lists: Lists::Short,
+        lengths: Lengths::Random,
+        places: Places::Crowded,
+    };
+    sheets.push(kind.sheet(&mut rng));
+    for sheet in sheets {
+        let due = Expected::of(&sheet);
+        for size in 0..=due.length() + 3 {
+            let hosted = judge.call(&sheet, size, &due).unwrap_or_else(|fault| {
+                let text = String::from_utf8_lossy(&sheet);
+                panic!("a buffer of {size}: {fault}\nsheet:\n{text}")
+            });
+            match hosted.refusal {
+                0 => enough += 1,
+                9 => short += 1,
+                _ => bad += 1,
+            }
+        }
+    }
+    println!("{short} too short, {enough} large enough, {bad} with bad sheets");
+    assert!(short >= 10_000 && enough >= 200 && bad >= 1_000);
+}
+
+/// No room at all: a good sheet is 9, a bad one what its fault is.
+#[test]
+fn empty_buffers() {
+    let mut counts = [0; 10];
+    let bad = (24..28).flat_map(|run| cases::faulty(run, 300));
+    for case in cases::sound(14, 500).into_iter().chain(bad) {
+        let hosted = plan(&case.sheet, &mut Vec::new());
+        let (refusal, line) = match second::read(&case.sheet) {
+            Ok(_) => (9, 0),
+            Err(fault) => (fault.refusal.number(), fault.line),
+        };
+        let due = Hosted {
+            refusal,
+            line,
+            length: 0,
+        };
+        assert_eq!(hosted, due);
+        counts[refusal as usize] += 1;
+    }
+    println!("by refusal: {counts:?}");
+    assert!(counts[9] >= 500);
+    assert!(counts[1..=5].iter().all(|&count| count >= 20), "{counts:?}");
+}
+
+/// A sheet that stands between other bytes, at any offset and cut anywhere
+/// with its rest behind it, is what its own bytes are.
+#[test]
+fn bytes_beside_the_sheet() {
+    let mut judge = Judge::new(plan);
+    let mut rng = Rng::new(15);
+    let mut refusals = [0; 10];
+    for round in 0..40 {
+        let mut file = match round {
+            0 => SHEET.to_vec(),
+            _ => gen::draft(&mut rng, gen::SMALL).render(),
+        };
+        let own = file.len();
+        // What would go on well as a sheet, and what would not.
+        file.extend(match round % 3 {
+            0 => b"     1     1     1     1\n".as_slice(),
+            1 => b"\n\n\n\n\n\n\n\n",
+            _ => b"99999999",
+        });
+        for offset in 0..9 {
+            let memory = [&file[file.len() - offset..], &file].concat();
+            let before = memory.clone();
+            let ends = if offset == 0 {
+                0..own + 1
+            } else {
+                own..own + 1
+            };
+            for end in ends {
+                let due = Expected::of(&file[..end]);
+                let sheet = &memory[offset..offset + end];
+                let hosted = judge.call(sheet, MOST, &due);
+                let hosted = hosted.unwrap_or_else(|fault| panic!("{fault}\n{end} of {file:?}"));
+                refusals[hosted.refusal as usize] += 1;
+            }
+            assert_eq!(black_box(memory), before, "the sheet stays as it is");
+        }
+    }
+    println!("by refusal: {refusals:?}");
+    assert_eq!(refusals[0], 40 * 9);
+    assert!(refusals[1] >= 1_000);
+}
+
+/// A planner that is right but for one thing.
+type Cheat = (&'static str, fn(&[u8], &mut [u8]) -> Hosted);
+
+const CHEATS: [Cheat; 14] = [
+    ("writes past the listing", |sheet, listing| {
+        let hosted = plan(sheet, listing);
+        if let Some(next) = listing.get_mut(hosted.length as usize) {
+            if hosted.refusal == 0 {
+                *next = 0;
+            }
+        }
+        hosted
+    }),
+    ("clears the last byte of the buffer", |sheet, listing| {
+        if let Some(last) = listing.last_mut() {
+            *last = 0;
+        }
+        plan(sheet, listing)
+    }),
+    ("writes to a buffer that is too short", |sheet, listing| {
+        let hosted = plan(sheet, listing);
+        if hosted.refusal == 9 {
+            listing.fill(b' ');
+        }
+        hosted
+    }),
+    ("writes for a bad sheet", |sheet, listing| {
+        let hosted = plan(sheet, listing);
+        if (1..=5).contains(&hosted.refusal) && listing.len() > 100 {
+            listing[0] = b'\n';
+        }
+        hosted
+    }),
+    ("judges the buffer first", |sheet, listing| {
+        let hosted = plan(sheet, listing);
+        if listing.is_empty() {
+            return Hosted {
+                refusal: 9,
+                line: 0,
+                length: 0,
+            };
+        }
+        hosted
+    }),
+    ("wants one byte more", |sheet, listing| {
+        let before = listing.to_vec();
+        let hosted = plan(sheet, listing);
+        if hosted.length as usize == before.len() && hosted.refusal == 0 {
+            listing.copy_from_slice(&before);
+            return Hosted {
+                refusal: 9,
+                line: 0,
+                length: 0,
+            };
+        }
+        hosted
+    }),
+    ("fills what there is", |sheet, listing| {
+        let hosted = plan(sheet, listing);
+        if hosted.refusal == 9 {
+            return Hosted {
+                refusal: 0,
+                length: listing.len() as u64,
+                ..hosted
+            };
+        }
+        hosted
+    }),
+    ("gives a line with 9", |sheet, listing| {
+        let hosted = plan(sheet, listing);
+        let line = hosted.line + (hosted.refusal == 9) as u32;
+        Hosted { line, ..hosted }
+    }),
+    ("gives a line with a listing", |sheet, listing| {
+        let hosted = plan(sheet, listing);
+        let line = hosted.line + (hosted.refusal == 0) as u32;
+        Hosted { line, ..hosted }
+    }),
+    ("counts lines from 0", |sheet, listing| {
+        let hosted = plan(sheet, listing);
+        let line = hosted.line.saturating_sub(1);
+        Hosted { line, ..hosted }
+    }),
+    ("gives a length with a refusal", |sheet, listing| {
+        let hosted = plan(sheet, listing);
+        let length = hosted.length.max(1);
+        Hosted { length, ..hosted }
+    }),
+    ("takes 4 for 5", |sheet, listing| {
+        let hosted = plan(sheet, listing);
+        let refusal = hosted.refusal - (hosted.refusal == 5) as u32;
+        Hosted { refusal, ..hosted }
+    }),
+    ("leaves out the last LF", |sheet, listing| {
+        let mut hosted = plan(sheet, listing);
+        if hosted.refusal == 0 {
+            hosted.length -= 1;
+        }
+        hosted
+    }),
+    ("lists another place", |sheet, listing| {
+        let hosted = plan(sheet, listing);
+        if hosted.length > 60 {
+            // The end of the last line's second field.
+            listing[hosted.length as usize - 8] ^= 1;
+        }
+        hosted
+    }),
+];
+
+/// Each is caught on four sheets, and the honest planner is not.
+#[test]
+fn cheats_are_caught() {
+    let bad: Vec<u8> = SHEET.iter().copied().filter(|&b| b != b'3').collect();
+    let mut place = SHEET.to_vec();
+    place[13 + 11] = b'3';
+    let sheets: [&[u8]; 4] = [SHEET, &bad, &place, b"     1     0\n"];
+    let verdict = |planner: fn(&[u8], &mut [u8]) -> Hosted| -> Result<(), String> {
+        let mut judge = Judge::new(planner);
+        for sheet in sheets {
+            judge.rooms(sheet, &Expected::of(sheet), &mut Met::default())?;
+        }
+        Ok(())
+    };
+    assert_eq!(verdict(plan), Ok(()));
+    for (name, cheat) in CHEATS {
+        assert!(verdict(cheat).is_err(), "not caught: {name}");
+    }
+}

@@ -1,0 +1,194 @@
+//! Sheets good, bad and hard, each with every kind of buffer: the exported
+//! call beside the second planner.
+
+use std::sync::atomic::{AtomicUsize, Ordering};
+
+use against::{cases, Case};
+use host::check::{compare, Met};
+use host::kinds::Kind;
+use host::{plan, Hosted};
+use second::rng::Rng;
+use second::{apply, read, trial, Call, Draft, Sheet, Verdict};
+
+/// What a sheet's listing is, or its refusal and line.
+fn answer(sheet: &str) -> Result<String, (u32, u32)> {
+    let mut listing = vec![0; host::listing::MOST];
+    let Hosted {
+        refusal,
+        line,
+        length,
+    } = plan(sheet.as_bytes(), &mut listing);
+    if refusal != 0 {
+        assert_eq!(length, 0);
+        return Err((refusal, line));
+    }
+    assert_eq!(line, 0);
+    listing.truncate(length as usize);
+    Ok(String::from_utf8(listing).unwrap())
+}
+
+/// The sheet of the paper's first case.
+const SHEET: &str = "     2     3
+    30     1     2     1     2
+    20     1     1     1
+    10     1     2     1     2
+";
+
+#[test]
+fn known_listings() {
+    let first = "    30    30     0     2     2           0
+     0
+     1     2    30
+     2     1    20
+     3     1    10
+";
+    assert_eq!(answer(SHEET).unwrap(), first);
+    let second = "     2     3
+    10     1     1     1
+    10     0     1     1
+    10     1     1     1
+";
+    let listing = "    30    30    20     0     0           0
+     1     1
+     1     1    10
+     2     1    10
+     3     1    10
+";
+    assert_eq!(answer(second).unwrap(), listing);
+    let empty = "     0     0     0     0     0           0\n     0\n";
+    assert_eq!(answer("     1     0\n").unwrap(), empty);
+    assert_eq!(answer("    24     0\n").unwrap(), empty);
+    let longest = "     1     1\n  1440     0     1     1\n";
+    let listing = "  1440  1440     0     0     0           0\n     0\n     1     1  1440\n";
+    assert_eq!(answer(longest).unwrap(), listing);
+}
+
+#[test]
+fn known_refusals() {
+    let line = "     1     0     1     1\n";
+    let full = format!("     1   200\n{}", line.repeat(200));
+    assert_eq!(answer(&full).unwrap().lines().count(), 202);
+    for (sheet, refusal) in [
+        (String::new(), (1, 1)),
+        (SHEET.replace("    30", "    07"), (1, 2)),
+        (format!("     1   201\n{}", line.repeat(201)), (2, 1)),
+        ("    25     0\n".into(), (2, 1)),
+        (SHEET.replace("    30", "  1441"), (3, 2)),
+        (SHEET.replace("1     1\n", "1     3\n"), (4, 3)),
+        (SHEET.replace("20     1", "20     2"), (5, 3)),
+        (format!("{SHEET} "), (1, 5)),
+        (format!("{full}{line}"), (1, 202)),
+        (format!("{SHEET}{}", "\n".repeat(1 << 20)), (1, 5)),
+    ] {
+        let start = &sheet[..sheet.len().min(100)];
+        assert_eq!(answer(&sheet), Err(refusal), "{start}");
+    }
+}
+
+/// Every kind of buffer was met by good sheets: the first four are too short.
+fn rooms_of_good_sheets(met: &Met) {
+    let each = met.plans.count;
+    assert_eq!(met.calls[0], [0, 0, 0, 0, each, each, each, each]);
+    assert_eq!(met.calls[9], [each, each, each, each, 0, 0, 0, 0]);
+}
+
+#[test]
+fn sound_sheets() {
+    let kinds = Kind::all();
+    let of_kind = |run: u64| {
+        let kind = kinds[run as usize % kinds.len()];
+        let mut rng = Rng::new(run);
+        (0..10).map(|_| Case::from(kind.sheet(&mut rng))).collect()
+    };
+    let met = compare(420, |run| match run {
+        0..=35 => of_kind(run),
+        36..=39 => cases::largest(run, 25),
+        40..=139 => cases::reviews_and_trials(run, 100),
+        _ => cases::sound(run, 220),
+    });
+    println!("{}", met.summary());
+    assert_eq!(met.sheets, 36 * 10 + 4 * 25 + 100 * 100 + 280 * 220);
+    let plans = &met.plans;
+    assert_eq!(plans.count, met.sheets);
+    assert!(met.sheets >= 50_000);
+    rooms_of_good_sheets(&met);
+    assert!(plans.empty >= 1_000 && plans.small >= 10_000);
+    assert!(plans.middle >= 5_000 && plans.largest >= 1_000);
+    assert!(plans.given >= 100_000 && plans.open >= 100_000);
+    assert!(plans.none >= 1_000 && plans.some >= 1_000 && plans.all >= 1_000);
+    assert!(plans.shown >= 1_000);
+    assert!(plans.worked >= 1_000 && plans.moved >= 1_000);
+    assert!(plans.steps >= 1_000 && plans.moves >= 10);
+}
+
+#[test]
+fn damaged_sheets() {
+    let met = compare(124, |run| match run {
+        0..=7 => cases::every_byte(run),
+        8..=23 => cases::every_field(run),
+        24..=63 => cases::faulty(run, 300),
+        _ => cases::damaged(run, 220),
+    });
+    println!("{}", met.summary());
+    assert!(met.sheets >= 40_000);
+    rooms_of_good_sheets(&met);
+    // Some damage leaves a good sheet, with other numbers in it.
+    assert!(met.plans.count >= 500);
+    for number in 1..=5 {
+        for count in met.calls[number] {
+            assert!(count >= 500, "refusal {number}");
+        }
+    }
+    for number in [1, 3, 4, 5] {
+        assert!(met.lines[number].len() >= 100, "lines of refusal {number}");
+    }
+}
+
+/// The most steps of the trials that planning makes; all but the kept one's
+/// are in no listing.
+fn most_steps(sheet: &Sheet) -> u32 {
+    let (mut failed, mut passed) = (-1, sheet.makespan() as i64);
+    let mut most = 0;
+    while passed - failed > 1 {
+        let level = (failed + passed).div_euclid(2);
+        let answer = trial(sheet, level as u64).unwrap();
+        most = most.max(answer.lifts + answer.pushes);
+        match answer.verdict {
+            Verdict::Pass(_) => passed = level,
+            Verdict::Fail(_) => failed = level,
+        }
+    }
+    most
+}
+
+/// The hard shape as it is, with a few edits made, and without its last byte.
+#[test]
+fn hard_sheets() {
+    let long = AtomicUsize::new(0);
+    let met = compare(20, |run| {
+        let mut sheets = Vec::new();
+        for case in cases::hard(run, 2) {
+            let mut sheet = read(&case.sheet).unwrap();
+            let edits = case
+                .calls
+                .iter()
+                .filter(|call| !matches!(call, Call::Review | Call::Trial { .. }));
+            for edit in edits {
+                apply(&mut sheet, edit);
+            }
+            long.fetch_add((most_steps(&sheet) >= 100_000) as usize, Ordering::Relaxed);
+            let edited = Draft::from(&sheet).render();
+            let mut cut = edited.clone();
+            cut.pop();
+            sheets.extend([case.sheet, edited, cut]);
+        }
+        sheets.into_iter().map(Case::from).collect()
+    });
+    let long = long.into_inner();
+    println!("{}, {long} long", met.summary());
+    assert_eq!((met.sheets, met.plans.count), (120, 80));
+    rooms_of_good_sheets(&met);
+    assert_eq!(met.calls[1], [40; 8]);
+    assert!(met.plans.largest >= 40 && met.plans.moved >= 40);
+    assert!(long >= 20);
+}
