@@ -91,6 +91,20 @@ fn find(places: &[u8], heights: &[u8], n: usize, i: u8, low: u8, from: usize) ->
     0
 }
 
+// Job `b`, by index, is on machine `i` and of height `low`.
+fn stands(places: &[u8], heights: &[u8], n: usize, b: usize, i: u8, low: u8) -> bool
+    requires { ⌜ (n ≤ length (now places)) × (n ≤ length (now heights)) ⌝ }
+    ensures { λ r. ⌜ r ≡ (ltb b n and standing (now (places .entry)) (now (heights .entry)) i low (suc b)) ⌝ }
+{
+    if b >= n {
+        return false;
+    }
+    if places[b] != i {
+        return false;
+    }
+    heights[b] == low
+}
+
 // The lowest job on machine `i` whose height is one less than `h`. None of the jobs 1 to `from` is such.
 pub fn next_off(places: &[u8], heights: &[u8], n: usize, i: u8, h: u8, from: usize) -> usize
     requires { ⌜ (n ≤ length (now places)) × (n ≤ length (now heights)) × (from ≤ n)
@@ -101,6 +115,9 @@ pub fn next_off(places: &[u8], heights: &[u8], n: usize, i: u8, h: u8, from: usi
         return 0;
     }
     let low = h - 1;
+    if stands(places, heights, n, from, i, low) {
+        return from + 1;
+    }
     let b = skip(places, heights, n, i, low, from);
     find(places, heights, n, i, low, b)
 }

@@ -1,22 +1,21 @@
 -- A hand-over as the code makes it, on arrays by index.
 -- Assumes nothing.
-use Prim.Native.Nat.{ℕ, zero, suc, _+_, _-_, _*_, _≤_, _<_}
-use mathlib.Core.Path.{_≡_, refl, sym, ap, subst, _∙_}
+use Prim.Native.Nat.{ℕ, suc, _+_, _-_, _≤_}
+use mathlib.Core.Path.{_≡_, sym, ap, subst, _∙_}
 use mathlib.Core.Bool.{Bool, true, false}
 use mathlib.Core.List.{List}
 use native.Mathlib.Numerals.{add-one}
 use native.Mathlib.Omega.{arith}
 use lib.ListN.{length, getD, set}
 use lib.Dec.{eqb}
-use Rattle.rules.specs.Fold.{pick, at}
-use Rattle.rules.specs.Instance.{Instance, n, minutesOf}
+use Rattle.rules.specs.Fold.{pick}
+use Rattle.rules.specs.Instance.{Instance, minutesOf}
 use Rattle.trials.specs.declared.State.{State}
 use Rattle.arrays.specs.Sets.{LowestIn}
-use Rattle.trials.specs.Track.{arrays, goesOn, Giving, Onward}
-use Rattle.trials.proofs.Shifted.{shifted}
-use Rattle.trials.proofs.Handing.{handOn, machine-in}
+use Rattle.trials.specs.Track.{arrays, GoesOn, Giving, Onward}
+use Rattle.trials.proofs.Handing.{handOn}
 use Rattle.trials.proofs.Moving.{onward}
-use Rattle.trials.proofs.Giving.{chosen, height-is, machine-found, minutes-at}
+use Rattle.trials.proofs.Giving.{chosen, height-is, minutes-at}
 
 -- loads after w minutes went from index i to index j
 abbrev pub shiftAt : List ℕ → ℕ → ℕ → ℕ → List ℕ
@@ -30,14 +29,14 @@ module _ (machines jobs places loads levels : List ℕ) (lifts pushes : ℕ) {I 
   wide : I .m ≤ length loads
   wide = omega (arith, v .wide, v .setup .reads .machines, v .setup .reads .few)
 
-  given-suc : (j height up w : ℕ) (on : Bool) → LowestIn (getD sets b 0) levels (getD jobs b 0 - 1) (suc j) height
+  pub given : (j height up w : ℕ) (on : Bool) → LowestIn (getD sets b 0) levels (getD jobs b 0 - 1) (suc j) height
       → w ≡ getD lengths b 0
       → up ≡ pick (eqb (getD jobs b 0) (height + 1)) 0 1
-      → on ≡ goesOn (shiftAt loads i j w) machines m a limit (2 * m) i j (getD loads j 0)
-      → Onward I a i b (arrays machines jobs places loads levels lifts pushes)
+      → (on ≡ true → GoesOn m a limit i j (getD loads j 0) (getD (shiftAt loads i j w) i 0) (getD (shiftAt loads i j w) j 0) machines)
+      → Onward I a i (suc b) (arrays machines jobs places loads levels lifts pushes)
       (arrays machines (set jobs b (height + 1)) (set places b (j + 1)) (shiftAt loads i j w) levels (lifts + up) (pushes + 2)) on
-  given-suc j height up w on l ew eu eo =
-      subst (λ (x : State). Onward I a i b (arrays machines jobs places loads levels lifts pushes) x on) (sym same)
+  given j height up w on l ew eu eo =
+      subst (λ (x : State). Onward I a i (suc b) (arrays machines jobs places loads levels lifts pushes) x on) (sym same)
       (onward I a (arrays machines jobs places loads levels lifts pushes) i (v .turn) b j (v .next) (chosen v (suc j) height l) (v .setup) wide on
       (rw (← w-is) eo))
     where
@@ -59,13 +58,3 @@ module _ (machines jobs places loads levels : List ℕ) (lifts pushes : ℕ) {I 
         pushes = pushes + 2;
         resting = false;
       }
-
-  pub given : (machine height up w : ℕ) (on : Bool) → LowestIn (getD sets b 0) levels (getD jobs b 0 - 1) machine height
-      → w ≡ getD lengths b 0
-      → up ≡ pick (eqb (getD jobs b 0) (height + 1)) 0 1
-      → on ≡ goesOn (shiftAt loads i (machine - 1) w) machines m a limit (2 * m) i (machine - 1) (getD loads (machine - 1) 0)
-      → Onward I a i b (arrays machines jobs places loads levels lifts pushes)
-      (arrays machines (set jobs b (height + 1)) (set places b (machine - 1 + 1)) (shiftAt loads i (machine - 1) w) levels (lifts + up) (pushes + 2)) on
-  given machine height up w on l ew eu eo =
-      let e : machine ≡ suc (machine - 1) = omega (arith, machine-found v machine height l .0) in
-      given-suc (machine - 1) height up w on (rw e at l) ew eu eo

@@ -1,29 +1,28 @@
 -- What one hand-over on the arrays comes to, with the test of whose turn it is.
 -- Assumes nothing.
-use Prim.Native.Nat.{ℕ, zero, suc, _+_, _-_, _*_, _≤_, _<_}
+use Prim.Native.Nat.{ℕ, suc, _-_, _≤_, _<_}
 use mathlib.Core.Path.{_≡_, refl, sym, ap, subst, _∙_}
-use mathlib.Core.Bool.{Bool, true, false, not}
-use mathlib.Core.Logic.{_≢_, _⊎_, inl, inr}
+use mathlib.Core.Bool.{Bool, true, false}
+use mathlib.Core.Logic.{_≢_}
 use mathlib.Core.List.{List}
 use native.Mathlib.Omega.{arith}
 use native.Mathlib.Decide.{ℕ-discrete}
-use lib.ListN.{length, take, getD, set}
-use lib.Dec.{ltb, leb, eqb}
-use borrow.Author.Tests.{ltb-true, lt-ltb, leb-true, le-leb, eqb-true, not-true}
-use Rattle.rules.specs.Fold.{_and_, _or_, pick, at, put, anyTo}
+use lib.ListN.{length, take}
+use lib.Dec.{eqb}
+use borrow.Author.Tests.{eqb-true}
+use Rattle.rules.specs.Fold.{_and_, at, put}
 use Rattle.rules.specs.Instance.{Instance, n, minutesOf}
-use Rattle.rules.specs.Trial.{machineArc, someUnderloaded}
-use Rattle.theory.proofs.Logic.{byTest, conflict, and-left, and-right, and-mk, or-cases, not-mk}
-use Rattle.theory.proofs.View.{None, First, first}
-use Rattle.theory.proofs.Fold.{at-put-same, at-put-other, length-put}
-use Rattle.theory.proofs.Heights.{put-cases}
+use Rattle.rules.specs.Trial.{machineArc}
+use Rattle.theory.proofs.Logic.{byTest, and-left, and-right}
+use Rattle.theory.proofs.View.{First, first}
+use Rattle.theory.proofs.Fold.{at-put-same, at-put-other}
 use Rattle.theory.proofs.Turn.{nextOff, leastFor}
 use Rattle.trials.specs.declared.State.{State}
-use Rattle.trials.specs.Track.{stateOf, Setup, Tracks, Turn, goesOn, Passed, Onward}
+use Rattle.trials.specs.Track.{stateOf, Setup, Tracks, Turn, GoesOn, Passed, Onward}
 use Rattle.trials.proofs.Take.{at-take, take-long}
-use Rattle.trials.proofs.Shifted.{shifted, length-shifted}
-use Rattle.trials.proofs.Handing.{handOn, on-it, target-in, machine-in, leads, tracks}
-use Rattle.trials.proofs.Going.{still-first, still-some, some-by}
+use Rattle.trials.proofs.Shifted.{shifted}
+use Rattle.trials.proofs.Handing.{handOn, machine-in, leads, tracks}
+use Rattle.trials.proofs.Going.{still-first, still-some}
 
 module _ (I : Instance) (a : ℕ) (t : State) (i : ℕ) (k : Turn I a (suc i) t)
     (b j : ℕ) (z : nextOff I (stateOf (I .m) (n I) t) (suc i) ≡ suc b) (f : leastFor I (stateOf (I .m) (n I) t) (suc b) ≡ suc j)
@@ -92,30 +91,19 @@ module _ (I : Instance) (a : ℕ) (t : State) (i : ℕ) (k : Turn I a (suc i) t)
   tracks′ : Tracks I a t′
   tracks′ = tracks I a t i k b z j f u long
 
-  pub goes-on : goesOn (t′ .loads) (t .machines) m a limit (2 * m) i j (at (t .loads) (suc j)) ≡ true → Turn I a (suc i) t′
-  unfolding goesOn
-  goes-on e =
-      let l = ltb limit (at (t′ .loads) (suc i)) in
-      let lower = ltb j i and ltb limit (at (t′ .loads) (suc j)) and leb (at (t .machines) (suc j)) (2 * m) in
-      let rest = and-right l _ e in
-      record {
-        tracks = tracks′;
-        first = still-first I a i j t t′ k tracks′ refl loads-other loads-less u (ltb-true _ _ (and-left l _ e))
-            (λ x y w. conflict
-            (and-mk (ltb j i) _ (lt-ltb j i (omega arith)) (and-mk (ltb limit (at (t′ .loads) (suc j))) _ (lt-ltb _ _ y) (le-leb _ _ w)))
-            (not-true lower (and-left (not lower) _ rest)));
-        some = or-cases (ltb a (at (t .loads) (suc j))) _ (and-right (not lower) _ rest)
-            (λ x. still-some I a i j t t′ k tracks′ refl loads-other loads-less u (inl (ltb-true _ _ x)))
-            (λ x. or-cases (leb (at (t′ .loads) (suc j)) a) _ x
-            (λ y. still-some I a i j t t′ k tracks′ refl loads-other loads-less u (inr (leb-true _ _ y)))
-            (λ y. sym (some-by I a t′ tracks′ u) ∙ y));
-      }
+  pub goes-on : GoesOn m a limit i j (at (t .loads) (suc j)) (at (t′ .loads) (suc i)) (at (t′ .loads) (suc j)) (t .machines) → Turn I a (suc i) t′
+  goes-on e = record {
+    tracks = tracks′;
+    first = still-first I a i j t t′ k tracks′ refl loads-other loads-less u (e .over) (λ x y w. let l = e .lower (omega arith) w in omega arith);
+    some = still-some I a i j t t′ k tracks′ refl loads-other loads-less u (e .some);
+  }
 
-  pub onward : (stays : Bool) → stays ≡ goesOn (t′ .loads) (t .machines) m a limit (2 * m) i j (at (t .loads) (suc j))
-      → Onward I a i b t (handOn t (suc i) (suc b) (suc j) (minutesOf I (suc b))) stays
+  pub onward : (stays : Bool)
+      → (stays ≡ true → GoesOn m a limit i j (at (t .loads) (suc j)) (at (t′ .loads) (suc i)) (at (t′ .loads) (suc j)) (t .machines))
+      → Onward I a i (suc b) t (handOn t (suc i) (suc b) (suc j) (minutesOf I (suc b))) stays
   onward stays e = record {
     leads = leads I a t i k b z j f u;
     tracks = tracks′;
     passed = passed;
-    turn = λ y. goes-on (sym e ∙ y);
+    turn = λ y. goes-on (e y);
   }

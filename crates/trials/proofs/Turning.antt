@@ -1,7 +1,7 @@
 -- A machine's turn, from one hand-over to the next.
 -- Assumes nothing.
-use Prim.Native.Nat.{ℕ, zero, suc, _+_, _-_, _≤_, _<_}
-use mathlib.Core.Path.{_≡_, refl, sym, ap, subst, _∙_}
+use Prim.Native.Nat.{ℕ, suc, _+_, _-_, _≤_, _<_}
+use mathlib.Core.Path.{_≡_, sym, _∙_}
 use mathlib.Core.Bool.{Bool, true, false, true≢false}
 use mathlib.Core.List.{List}
 use native.Mathlib.Numerals.{add-one}
@@ -16,7 +16,7 @@ use Rattle.theory.proofs.View.{None, First, first, none-zero}
 use Rattle.theory.proofs.Iterate.{here, leads-trans}
 use Rattle.theory.proofs.Turn.{nextOff}
 use Rattle.trials.specs.declared.State.{State}
-use Rattle.trials.specs.Track.{stateOf, arrays, Turn, Passed, Giving, Onward, Passing, Went, Along}
+use Rattle.trials.specs.Track.{stateOf, Giving, Onward, Passing, Went, Along}
 use Rattle.trials.proofs.Handing.{machine-in}
 use Rattle.trials.proofs.Raising.{next-by}
 
@@ -72,7 +72,7 @@ module _ {I : Instance} {a limit m c : ℕ} {lengths sets : List ℕ} {i : ℕ} 
       none = λ x. sym (next-is r e) ∙ z;
     }
 
-    module _ {b : ℕ} {t′ : State} {stays : Bool} (o : Onward I a i b t t′ stays) where
+    module _ {next : ℕ} {t′ : State} {stays : Bool} (o : Onward I a i next t t′ stays) where
       pub went-stopped : Went I a i t₀ t′ true
       went-stopped = record {
         leads = leads-trans (k .leads) (o .leads);
@@ -81,11 +81,9 @@ module _ {I : Instance} {a limit m c : ℕ} {lengths sets : List ℕ} {i : ℕ} 
         none = λ x. absurd (true≢false x);
       }
 
-      pub along-on : stays ≡ true → (r : ℕ) → 0 < r → b ≡ r - 1 → Along I a i r t₀ t′
-      along-on e r r0 q =
-          let w : suc b ≡ r = omega arith in
-          record {
-            leads = leads-trans (k .leads) (o .leads);
-            turn = o .turn e;
-            passed = subst (λ (x : ℕ). Passed i x t′) w (o .passed);
-          }
+      pub along-on : stays ≡ true → Along I a i next t₀ t′
+      along-on e = record {
+        leads = leads-trans (k .leads) (o .leads);
+        turn = o .turn e;
+        passed = o .passed;
+      }

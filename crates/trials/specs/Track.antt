@@ -1,12 +1,14 @@
 -- A trial's arrays, and what of the rules they stand for.
 -- Assumes nothing.
-use Prim.Native.Nat.{ℕ, suc, _+_, _*_, _≤_, _<_}
+use Prim.Native.Nat.{ℕ, suc, _+_, _-_, _*_, _≤_, _<_}
 use mathlib.Core.Path.{_≡_}
-use mathlib.Core.Bool.{Bool, true, false, not}
+use mathlib.Core.Bool.{Bool, true, false}
+use mathlib.Core.Logic.{_⊎_}
 use mathlib.Core.List.{List}
-use lib.ListN.{length, take, getD}
-use lib.Dec.{ltb, leb, eqb}
-use Rattle.rules.specs.Fold.{_and_, _or_, at, firstTo, anyTo}
+use lib.ListN.{length, take, getD, set}
+use lib.Bits.{bitAnd}
+use lib.Dec.{eqb}
+use Rattle.rules.specs.Fold.{_and_, pick, at, firstTo}
 use Rattle.rules.specs.Instance.{Instance, n}
 use Rattle.rules.specs.Load.{load, longest}
 use Rattle.rules.specs.Trial as T
@@ -16,7 +18,7 @@ use Rattle.theory.proofs.View.{None}
 use Rattle.theory.proofs.Iterate.{Leads}
 use Rattle.theory.proofs.Turn.{Placed, able, nextOff}
 use Rattle.trials.specs.declared.State.{State}
-use Rattle.arrays.specs.Sets.{Levels}
+use Rattle.arrays.specs.Sets.{has, Levels, LowestIn}
 use Rattle.trials.specs.Reads.{Reads}
 
 -- the rules' state that the arrays hold, for m machines and n jobs
@@ -61,23 +63,23 @@ arrays machines jobs places loads levels lifts pushes = record {
   resting = false;
 }
 
--- After machine i gave a job to machine j, which had the load old: i is still overloaded, j is no lower one that may act now, and some
--- machine is still underloaded. i and j are indices.
-unfoldable pub goesOn : List ℕ → List ℕ → ℕ → ℕ → ℕ → ℕ → ℕ → ℕ → ℕ → Bool
-goesOn loads machines m a limit top i j old =
-    ltb limit (getD loads i 0)
-    and not (ltb j i and ltb limit (getD loads j 0) and leb (getD machines j 0) top)
-    and (ltb a old or leb (getD loads j 0) a or anyTo m (λ q. leb (at loads q) a))
+-- After the machine at index i, of load x then, gave a job to the machine at index j, whose load went from old to y: i is still
+-- overloaded, j is no lower one that may act now, and some machine is still underloaded.
+pub record GoesOn (m a limit i j old x y : ℕ) (machines : List ℕ) : Type 0 where
+  pub over : limit < x
+  pub lower : j < i → getD machines j 0 ≤ 2 * m → y ≤ limit
+  pub some : (a < old) ⊎ (y ≤ a)
 
 -- no job up to number c on machine i + 1 stands just below it
 abbrev pub Passed : ℕ → ℕ → State → Type 0
 Passed i c t = None c (λ b. eqb (at (t .places) b) (suc i) and eqb (at (t .machines) (suc i)) (suc (at (t .jobs) b)))
 
--- from t to t′, where the job at index b was handed over by the machine at index i, whose turn it still is or not
-pub record Onward (I : Instance) (a i b : ℕ) (t t′ : State) (stays : Bool) : Type 0 where
+-- from t to t′, where the machine at index i handed jobs over, none is left just below it up to number from, and it is still its turn where
+-- stays says so
+pub record Onward (I : Instance) (a i from : ℕ) (t t′ : State) (stays : Bool) : Type 0 where
   pub leads : Leads I a (stateOf (I .m) (n I) t) (stateOf (I .m) (n I) t′)
   pub tracks : Tracks I a t′
-  pub passed : Passed i (suc b) t′
+  pub passed : Passed i from t′
   pub turn : stays ≡ true → Turn I a (suc i) t′
 
 -- the job at index b is next to be handed over by the machine at index i, whose turn it is
@@ -87,10 +89,32 @@ pub record Giving (I : Instance) (a limit m c : ℕ) (lengths sets : List ℕ) (
   pub next : nextOff I (stateOf (I .m) (n I) t) (suc i) ≡ suc b
   pub wide : length (t .loads) ≡ 24
 
--- whatever instance the arrays say, t′ is t with that job handed over
-abbrev pub Gives : ℕ → ℕ → ℕ → ℕ → List ℕ → List ℕ → ℕ → ℕ → State → State → Bool → Type 0
-Gives a limit m c lengths sets i b t t′ stays =
-    (I : Instance) → Giving I a limit m c lengths sets i b t → Onward I a i b t t′ stays
+-- whatever instance the arrays say, t′ is t with that job handed over, and others up to number from
+abbrev pub Gives : ℕ → ℕ → ℕ → ℕ → List ℕ → List ℕ → ℕ → ℕ → ℕ → State → State → Bool → Type 0
+Gives a limit m c lengths sets i b from t t′ stays =
+    (I : Instance) → Giving I a limit m c lengths sets i b t → Onward I a i from t t′ stays
+
+-- x has the machines that stand at the levels from `from` on below height, and those at height up to machine
+pub record Ahead (levels : List ℕ) (from machine height x : ℕ) : Type 0 where
+  pub lower : (h q : ℕ) → from ≤ h → h < height → has (getD levels h 0) q ≡ true → has x q ≡ true
+  pub level : (q : ℕ) → 0 < q → q ≤ machine → has (getD levels height 0) q ≡ true → has x q ≡ true
+
+-- And it is known where that job goes, of height low: to the machine at index j, where it gets height g. So does each job of that
+-- height that may run, of the machines in watch, on those in want alone. Up to the load most of j it stays the giver's turn, as far as j goes.
+pub record Aiming (I : Instance) (a limit m c : ℕ) (lengths sets : List ℕ) (i low j g watch want most b : ℕ) (t : State) : Type 0 where
+  pub giving : Giving I a limit m c lengths sets i b t
+  pub stands : getD (t .jobs) b 0 ≡ low
+  pub height : ℕ
+  pub lowest : LowestIn (getD sets b 0) (t .levels) (low - 1) (suc j) height
+  pub alike : (x : ℕ) → bitAnd x watch ≡ want → LowestIn x (t .levels) (low - 1) (suc j) height
+  pub lands : g ≡ height + 1
+  pub rests : getD (t .loads) j 0 ≤ a → most ≤ a
+  pub yields : j < i → getD (t .machines) j 0 ≤ 2 * m → most ≤ limit
+
+-- Once the jobs at the indices from first to before next went so: x and y are the loads of giver and taker.
+abbrev pub after : List ℕ → List ℕ → List ℕ → List ℕ → List ℕ → ℕ → ℕ → ℕ → ℕ → ℕ → ℕ → ℕ → ℕ → ℕ → ℕ → State
+after machines jobs places loads levels lifts pushes i j low g first next x y =
+    arrays machines jobs places (set (set loads i x) j y) levels (lifts + pick (eqb low g) 0 1 * (next - first)) (pushes + 2 * (next - first))
 
 -- a machine's turn begins
 pub record Passing (I : Instance) (a limit m c : ℕ) (lengths sets : List ℕ) (i : ℕ) (t : State) : Type 0 where
@@ -98,7 +122,7 @@ pub record Passing (I : Instance) (a limit m c : ℕ) (lengths sets : List ℕ) 
   pub turn : Turn I a (suc i) t
   pub wide : length (t .loads) ≡ 24
 
--- it has ended: stopped by another's turn or the trial's end, or with no job left just below the machine
+-- it has ended: stopped, as another's turn or the trial's end may have come, or with no job left just below the machine
 pub record Went (I : Instance) (a i : ℕ) (t t′ : State) (stopped : Bool) : Type 0 where
   pub leads : Leads I a (stateOf (I .m) (n I) t) (stateOf (I .m) (n I) t′)
   pub tracks : Tracks I a t′

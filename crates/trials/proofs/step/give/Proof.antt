@@ -1,29 +1,23 @@
--- A hand-over: the machine that the job goes to is the one that the rules choose, and the arrays are changed as they say.
+-- A run of hand-overs: the machine that the jobs go to is the one that the rules choose, and the arrays are changed as they say.
 -- Assumes nothing.
 use Prim.Native.Nat.{ℕ, suc, _+_, _-_, _*_, _≤_, _<_}
-use mathlib.Core.Path.{_≡_, refl, sym, ap, _∙_}
-use mathlib.Core.Bool.{Bool, true, false}
+use mathlib.Core.Path.{_≡_, refl, ap, subst}
+use mathlib.Core.List.{List}
 use native.Mathlib.Omega.{arith}
-use lib.ListN.{length, getD, take, length-set}
+use lib.ListN.{length, getD, length-set}
 use lib.Dec.{eqb}
-use Rattle.rules.specs.Fold.{pick, at}
-use Rattle.rules.specs.Instance.{Instance, n}
+use borrow.Author.Needs.{needs}
+use Rattle.rules.specs.Fold.{pick}
+use Rattle.rules.specs.Instance.{Instance}
 use Rattle.theory.proofs.Lifts.{lifts-bound}
 use Rattle.theory.proofs.Pushes.{pushes-bound}
-use Rattle.trials.specs.Track.{arrays, Giving}
 use Rattle.arrays.specs.Sets.{LowestIn}
 use Rattle.arrays.proofs.Levels.{levels-leveled}
-use Rattle.trials.proofs.Giving.{job-in, giver-in, reaches, heavy, machine-found, height-is, minutes-at, load-small, lift-bound-small, push-bound-small}
-use Rattle.trials.proofs.Given.{given}
-use borrow.Author.Needs.{needs}
+use Rattle.trials.specs.Track.{arrays, Giving, Aiming}
+use Rattle.trials.proofs.Giving.{job-in, giver-in, reaches, machine-found, lift-bound-small, push-bound-small}
+use Rattle.trials.proofs.Watch.{watched}
 use Rattle.trials.proofs.step.give.Statement.{statement}
 use Rattle.trials.proofs.step.give.Tie as tie
-use Rattle.trials.proofs.step.give.Reads as reads
-use Rattle.trials.proofs.step.give.Lts as lts
-use Rattle.trials.proofs.step.below.Reads as below-reads
-use Rattle.trials.proofs.step.hand.Reads as hand-reads
-use Rattle.trials.proofs.step.stays.Reads as stays-reads
-use Rattle.trials.proofs.step.wide.Reads as wide-reads
 
 -- ---- what is known from the start
 
@@ -34,133 +28,178 @@ known : (s : tie.Start) → Giving (inst s) (s .args .a) (s .args .limit) (s .ar
     (arrays (s .args .machines .now) (s .args .jobs .now) (s .args .places .now) (s .args .loads .now) (s .args .levels .now) (s .args .lifts) (s .args .pushes))
 known s = s .pre .0 .1
 
-job : (s : tie.Start) → s .args .b < s .args .n
-job s = job-in (known s)
-
-small : (s : tie.Start) → s .args .n ≤ 200
-small s = known s .setup .reads .most
+job : (s : tie.Start) → (s .args .b < s .args .n) × (s .args .n ≤ 200)
+job s = (job-in (known s), known s .setup .reads .most)
 
 few : (s : tie.Start) → s .args .m ≤ 24
 few s = known s .setup .reads .few
 
-minutes-small : (s : tie.Start) → getD (s .args .minutes .now) (s .args .b) 0 ≤ 1440
-minutes-small s = omega (arith, minutes-at (known s), known s .setup .reads .short (suc (s .args .b)))
+giver : (s : tie.Start) → (s .args .i < 24) × (s .args .i < length (s .args .loads .now))
+giver s = (omega (arith, giver-in (known s), few s), omega (arith, giver-in (known s), few s, known s .wide))
 
-counts : (s : tie.Start) → (s .args .lifts ≤ 11176) × (s .args .pushes ≤ 480000)
-counts s = (
-  omega (arith, lifts-bound (inst s) _ (known s .turn .tracks .counted .lifts), lift-bound-small (known s .setup .reads)),
-  omega (arith, pushes-bound (inst s) _ (known s .turn .tracks .counted .caps) (known s .turn .tracks .counted .pushes), push-bound-small (known s .setup .reads)),
-)
-
--- ---- where the job goes
+-- ---- where the jobs go
 
 abbrev start : tie.After-least-for → tie.Start
-start c = c .before .before .before .before .before .before .before .before .before .before .before .before .before
+start c = c .before .before .before .before .before .before .before .before .before .before .before
 
-lowest : (c : tie.After-least-for) → LowestIn (getD (start c .args .masks .now) (start c .args .b) 0) (start c .args .levels .now) (getD (start c .args .jobs .now) (start c .args .b) 0 - 1) (c .least-for .result .machine) (c .least-for .result .height)
+lowest : (c : tie.After-least-for)
+    → LowestIn (getD (start c .args .masks .now) (start c .args .b) 0) (start c .args .levels .now) (getD (start c .args .jobs .now) (start c .args .b) 0 - 1) (c .least-for .result .machine) (c .least-for .result .height)
 lowest c = rw (c .before .before .below .ensures) at (c .least-for .ensures)
 
 found : (c : tie.After-least-for) → (0 < c .least-for .result .machine) × (c .least-for .result .machine ≤ start c .args .m)
 found c = machine-found (known (start c)) _ _ (lowest c)
 
-height-small : (c : tie.After-least-for) → c .least-for .result .height < 64
-height-small c = lowest c .high
+taker : (c : tie.After-least-for) → (c .least-for .result .machine - 1 < 24) × (c .least-for .result .machine - 1 < length (start c .args .loads .now))
+taker c = (omega (arith, found c, few (start c)), omega (arith, found c, few (start c), known (start c) .wide))
 
-taker-small : (c : tie.After-least-for) → getD (start c .args .loads .now) (c .least-for .result .machine - 1) 0 ≤ 288000
-taker-small c =
-    let v = known (start c) in
-    let f = found c in
-    let e : c .least-for .result .machine ≡ suc (c .least-for .result .machine - 1) = omega (arith, f .0) in
-    omega (
-      arith,
-      v .turn .tracks .loads (suc (c .least-for .result .machine - 1)) (omega arith) (omega (arith, f, v .setup .reads .machines)),
-      load-small (inst (start c)) (take (n (inst (start c))) (start c .args .places .now)) (suc (c .least-for .result .machine - 1))
-          (omega (arith, v .setup .reads .jobs, v .setup .reads .most)) (v .setup .reads .short),
+-- the machine by its index
+numbered : {mask from machine height : ℕ} {levels : List ℕ} → 0 < machine → LowestIn mask levels from machine height
+    → LowestIn mask levels from (suc (machine - 1)) height
+numbered {mask} {from} {machine} {height} {levels} h l =
+    let e : machine ≡ suc (machine - 1) = omega arith in
+    subst (λ (r : ℕ). LowestIn mask levels from r height) e l
+
+abbrev least : tie.After-most-on → tie.After-least-for
+least c = c .before .before .before .before .before
+
+aiming : (c : tie.After-most-on) (I : Instance)
+    → Giving I (start (least c) .args .a) (start (least c) .args .limit) (start (least c) .args .m) (start (least c) .args .n) (start (least c) .args .minutes .now) (start (least c) .args .masks .now) (start (least c) .args .i) (start (least c) .args .b)
+    (arrays (start (least c) .args .machines .now) (start (least c) .args .jobs .now) (start (least c) .args .places .now) (start (least c) .args .loads .now) (start (least c) .args .levels .now) (start (least c) .args .lifts) (start (least c) .args .pushes))
+    → Aiming I (start (least c) .args .a) (start (least c) .args .limit) (start (least c) .args .m) (start (least c) .args .n) (start (least c) .args .minutes .now) (start (least c) .args .masks .now) (start (least c) .args .i)
+    (getD (start (least c) .args .jobs .now) (start (least c) .args .b) 0) (least c .least-for .result .machine - 1) (least c .least-for .result .height + 1)
+    (c .before .before .before .before .ahead .result) (c .before .before .before .with .result) (c .most-on .result) (start (least c) .args .b)
+    (arrays (start (least c) .args .machines .now) (start (least c) .args .jobs .now) (start (least c) .args .places .now) (start (least c) .args .loads .now) (start (least c) .args .levels .now) (start (least c) .args .lifts) (start (least c) .args .pushes))
+aiming c I v = record {
+  giving = v;
+  stands = refl;
+  height = least c .least-for .result .height;
+  lowest = numbered (found (least c) .0) (lowest (least c));
+  alike = watched (start (least c) .args .levels .now) (getD (start (least c) .args .jobs .now) (start (least c) .args .b) 0 - 1) (least c .least-for .result .height)
+      (getD (start (least c) .args .masks .now) (start (least c) .args .b) 0) (c .before .before .before .before .ahead .result) (c .before .before .before .with .result)
+      (least c .least-for .result .machine) (lowest (least c)) (found (least c) .0) (omega (arith, found (least c), few (start (least c))))
+      (rw (least c .before .before .below .ensures) at (c .before .before .before .before .ahead .ensures)) (c .before .before .before .with .ensures);
+  lands = refl;
+  rests = c .most-on .ensures .0;
+  yields = c .most-on .ensures .1;
+}
+
+-- ---- after the run
+
+abbrev most : tie.After-hand-alike → tie.After-most-on
+most c = c .before .before .before .before
+
+abbrev first : tie.After-hand-alike → tie.Start
+first c = start (least (most c))
+
+counts : (c : tie.After-hand-alike)
+    → (first c .args .lifts + pick (eqb (getD (first c .args .jobs .now) (first c .args .b) 0) (least (most c) .least-for .result .height + 1)) 0 1 * (c .hand-alike .result .next - first c .args .b) ≤ 11176)
+    × (first c .args .pushes + 2 * (c .hand-alike .result .next - first c .args .b) ≤ 480000)
+counts c =
+    let o = c .hand-alike .ensures .0 (inst (first c)) (first c .args .a) (first c .args .m) (first c .args .machines .now) (first c .args .levels .now) (first c .args .lifts) (first c .args .pushes)
+    (aiming (most c) (inst (first c)) (known (first c))) in (
+      omega (arith, lifts-bound (inst (first c)) _ (o .tracks .counted .lifts), lift-bound-small (known (first c) .setup .reads)),
+      omega (arith, pushes-bound (inst (first c)) _ (o .tracks .counted .caps) (o .tracks .counted .pushes), push-bound-small (known (first c) .setup .reads)),
     )
 
--- ---- after the hand-over
+abbrev ran : tie.After-rise → tie.After-hand-alike
+ran c = c .before .before .before .before .before
 
-up-small : (c : tie.After-hand) → c .hand .result ≤ 1
-up-small c = bit _ (eqb (getD (c .before .before .before .before .before .before .before .before .before .before .before .before .before .before .before .before .before .before .before .before .args .jobs .now) (c .before .before .before .before .before .before .before .before .before .before .before .before .before .before .before .before .before .before .before .before .args .b) 0) (c .before .before .before .before .before .before .before .least-for .result .height + 1)) (c .hand .ensures .1 .1 .1)
-  where
-    bit : (r : ℕ) (t : Bool) → r ≡ pick t 0 1 → r ≤ 1
-    bit r true e = omega arith
-    bit r false e = omega arith
+raised : (c : tie.After-rise) → c .rise .result * (ran c .hand-alike .result .next - first (ran c) .args .b)
+    ≡ pick (eqb (getD (first (ran c) .args .jobs .now) (first (ran c) .args .b) 0) (least (most (ran c)) .least-for .result .height + 1)) 0 1 * (ran c .hand-alike .result .next - first (ran c) .args .b)
+raised c = ap (λ (r : ℕ). r * (ran c .hand-alike .result .next - first (ran c) .args .b)) (c .rise .ensures)
 
-loads-long : (c : tie.After-hand) → length (c .hand .last .1 .1 .0) ≡ length (c .before .before .before .before .before .before .before .before .before .before .before .before .before .before .before .before .before .before .before .before .args .loads .now)
-loads-long c = ap length (c .hand .ensures .1 .1 .0) ∙ simp length-set
-
-mul-wide : tie.Need-mul-wide
-mul-wide c = omega (arith, job (c .before .before .before .before .before .before .before), small (c .before .before .before .before .before .before .before))
-
-shared-slice-read-wide : tie.Need-shared-slice-read-wide
-shared-slice-read-wide c = omega (arith, job (c .before .before .before .before .before .before .before .before), (c .before .before .before .before .before .before .before .before) .pre .1 .0)
-
-wide-requires : tie.Need-wide-requires
-wide-requires c κs = search needs
-
-slice-read-below : tie.Need-slice-read-below
-slice-read-below c = omega (arith, job (c .before .before .before .before .before .before .before .before .before .before), (c .before .before .before .before .before .before .before .before .before .before) .pre .1 .3)
+slice-read-low : tie.Need-slice-read-low
+slice-read-low c = omega (arith, job (c .before .before .before .before .before .before .before .before), (c .before .before .before .before .before .before .before .before) .pre .1 .3)
 
 below-requires : tie.Need-below-requires
 below-requires c κs = search needs
 
 mul-least-for : tie.Need-mul-least-for
-mul-least-for c = omega (arith, job (c .before .before .before .before .before .before .before .before .before .before .before), small (c .before .before .before .before .before .before .before .before .before .before .before))
+mul-least-for c = omega (arith, job (c .before .before .before .before .before .before .before .before .before))
 
 shared-slice-read-least-for : tie.Need-shared-slice-read-least-for
-shared-slice-read-least-for c = omega (arith, job (c .before .before .before .before .before .before .before .before .before .before .before .before), (c .before .before .before .before .before .before .before .before .before .before .before .before) .pre .1 .1)
+shared-slice-read-least-for c = omega (arith, job (c .before .before .before .before .before .before .before .before .before .before), (c .before .before .before .before .before .before .before .before .before .before) .pre .1 .1)
 
 least-for-requires : tie.Need-least-for-requires
 least-for-requires c κs = (
-  known (c .before .before .before .before .before .before .before .before .before .before .before .before) .setup .reads .words (suc (c .before .before .before .before .before .before .before .before .before .before .before .before .args .b)),
-  levels-leveled (known (c .before .before .before .before .before .before .before .before .before .before .before .before) .turn .tracks .levels),
-  rw (c .before .below .ensures) (reaches (known (c .before .before .before .before .before .before .before .before .before .before .before .before))),
+  known (c .before .before .before .before .before .before .before .before .before .before) .setup .reads .words (suc (c .before .before .before .before .before .before .before .before .before .before .args .b)),
+  levels-leveled (known (c .before .before .before .before .before .before .before .before .before .before) .turn .tracks .levels),
+  rw (c .before .below .ensures) (reaches (known (c .before .before .before .before .before .before .before .before .before .before))),
 )
 
 sub-j : tie.Need-sub-j
-sub-j c = found (c .before) .0
+sub-j c = found c .0
 
-mul-old : tie.Need-mul-old
-mul-old c = omega (arith, found (c .before), few (c .before .before .before .before .before .before .before .before .before .before .before .before .before .before))
+add-g : tie.Need-add-g
+add-g c = omega (arith, lowest c .high)
 
-slice-read-old : tie.Need-slice-read-old
-slice-read-old c = omega (arith, found (c .before .before), few (c .before .before .before .before .before .before .before .before .before .before .before .before .before .before .before), known (c .before .before .before .before .before .before .before .before .before .before .before .before .before .before .before) .wide)
-
-cast-hand : tie.Need-cast-hand
-cast-hand c = search needs
-
-hand-requires : tie.Need-hand-requires
-hand-requires c κs = (
-  omega (arith, job (c .before .before .before .before .before .before .before .before .before .before .before .before .before .before .before .before .before .before .before), (c .before .before .before .before .before .before .before .before .before .before .before .before .before .before .before .before .before .before .before) .pre .1 .2),
-  omega (arith, job (c .before .before .before .before .before .before .before .before .before .before .before .before .before .before .before .before .before .before .before), (c .before .before .before .before .before .before .before .before .before .before .before .before .before .before .before .before .before .before .before) .pre .1 .3),
-  omega (arith, giver-in (known (c .before .before .before .before .before .before .before .before .before .before .before .before .before .before .before .before .before .before .before)), few (c .before .before .before .before .before .before .before .before .before .before .before .before .before .before .before .before .before .before .before), known (c .before .before .before .before .before .before .before .before .before .before .before .before .before .before .before .before .before .before .before) .wide),
-  omega (arith, found (c .before .before .before .before .before .before), few (c .before .before .before .before .before .before .before .before .before .before .before .before .before .before .before .before .before .before .before), known (c .before .before .before .before .before .before .before .before .before .before .before .before .before .before .before .before .before .before .before) .wide),
-  omega (arith, found (c .before .before .before .before .before .before), few (c .before .before .before .before .before .before .before .before .before .before .before .before .before .before .before .before .before .before .before)),
-  omega (arith, height-small (c .before .before .before .before .before .before)),
-  rw (c .before .before .before .before .before .before .before .before .before .before .wide .ensures) (heavy (known (c .before .before .before .before .before .before .before .before .before .before .before .before .before .before .before .before .before .before .before))),
-  rw (c .before .before .before .before .before .before .before .before .before .before .wide .ensures) (omega (arith, taker-small (c .before .before .before .before .before .before), minutes-small (c .before .before .before .before .before .before .before .before .before .before .before .before .before .before .before .before .before .before .before))),
-)
+cast-g : tie.Need-cast-g
+cast-g c = omega (arith, lowest c .high)
 
 mul-top : tie.Need-mul-top
-mul-top c = omega (arith, few (c .before .before .before .before .before .before .before .before .before .before .before .before .before .before .before .before .before .before .before .before .before .before .before .before .before .before))
+mul-top c = omega (arith, few (start c))
 
 cast-top : tie.Need-cast-top
-cast-top c = omega (arith, few (c .before .before .before .before .before .before .before .before .before .before .before .before .before .before .before .before .before .before .before .before .before .before .before .before .before .before))
+cast-top c = omega (arith, few (start c))
 
-stays-requires : tie.Need-stays-requires
-stays-requires c κs = (
-  omega (arith, loads-long (c .before .before .before .before .before .before .before), known (c .before .before .before .before .before .before .before .before .before .before .before .before .before .before .before .before .before .before .before .before .before .before .before .before .before .before .before) .wide, few (c .before .before .before .before .before .before .before .before .before .before .before .before .before .before .before .before .before .before .before .before .before .before .before .before .before .before .before)),
-  omega (arith, loads-long (c .before .before .before .before .before .before .before), known (c .before .before .before .before .before .before .before .before .before .before .before .before .before .before .before .before .before .before .before .before .before .before .before .before .before .before .before) .wide, few (c .before .before .before .before .before .before .before .before .before .before .before .before .before .before .before .before .before .before .before .before .before .before .before .before .before .before .before), giver-in (known (c .before .before .before .before .before .before .before .before .before .before .before .before .before .before .before .before .before .before .before .before .before .before .before .before .before .before .before))),
-  omega (arith, loads-long (c .before .before .before .before .before .before .before), known (c .before .before .before .before .before .before .before .before .before .before .before .before .before .before .before .before .before .before .before .before .before .before .before .before .before .before .before) .wide, few (c .before .before .before .before .before .before .before .before .before .before .before .before .before .before .before .before .before .before .before .before .before .before .before .before .before .before .before), found (c .before .before .before .before .before .before .before .before .before .before .before .before .before .before)),
-  omega (arith, (c .before .before .before .before .before .before .before .before .before .before .before .before .before .before .before .before .before .before .before .before .before .before .before .before .before .before .before) .pre .1 .4, few (c .before .before .before .before .before .before .before .before .before .before .before .before .before .before .before .before .before .before .before .before .before .before .before .before .before .before .before), found (c .before .before .before .before .before .before .before .before .before .before .before .before .before .before)),
-)
+ahead-requires : tie.Need-ahead-requires
+ahead-requires c κs = (levels-leveled (known (start c) .turn .tracks .levels), c .least-for .ensures .low, lowest c .high, omega (arith, found c, few (start c)))
 
-add-t30 : tie.Need-add-t30
-add-t30 c = omega (arith, up-small (c .before .before .before .before .before .before .before .before), counts (c .before .before .before .before .before .before .before .before .before .before .before .before .before .before .before .before .before .before .before .before .before .before .before .before .before .before .before .before))
+with-requires : tie.Need-with-requires
+with-requires c κs = (omega arith, found (c .before) .0, omega (arith, found (c .before), few (start (c .before))))
 
-add-t40 : tie.Need-add-t40
-add-t40 c = omega (arith, counts (c .before .before .before .before .before .before .before .before .before .before .before .before .before .before .before .before .before .before .before .before .before .before .before .before .before .before .before .before))
+mul-most-on : tie.Need-mul-most-on
+mul-most-on c = omega (arith, taker (c .before .before))
+
+slice-read-most-on : tie.Need-slice-read-most-on
+slice-read-most-on c = taker (c .before .before .before) .1
+
+shared-slice-read-most-on : tie.Need-shared-slice-read-most-on
+shared-slice-read-most-on c = omega (arith, taker (c .before .before .before .before), (c .before .before .before .before .before .before .before .before .before .before .before .before .before .before .before) .pre .1 .4)
+
+most-on-requires : tie.Need-most-on-requires
+most-on-requires c κs = search needs
+
+hand-alike-requires : tie.Need-hand-alike-requires
+hand-alike-requires c κs =
+    let d = c .before .before .before in
+    let s = start (least d) in (
+      (inst s, s .args .a, s .args .m, s .args .machines .now, s .args .levels .now, s .args .lifts, s .args .pushes, aiming d (inst s) (known s)),
+      (s .pre .1 .0, s .pre .1 .1, s .pre .1 .2, s .pre .1 .3),
+    )
+
+mul-loads : tie.Need-mul-loads
+mul-loads c = omega (arith, giver (first (c .before .before .before .before)))
+
+slice-write-loads : tie.Need-slice-write-loads
+slice-write-loads c = giver (first (c .before .before .before .before)) .1
+
+mul-loads-2 : tie.Need-mul-loads-2
+mul-loads-2 c = omega (arith, taker (least (most (c .before .before .before .before))))
+
+slice-write-loads-2 : tie.Need-slice-write-loads-2
+slice-write-loads-2 c = omega (arith, taker (least (most (c .before .before .before .before))), length-set (first (c .before .before .before .before) .args .loads .now) (first (c .before .before .before .before) .args .i) (c .before .before .before .before .hand-alike .result .left))
+
+sub-count : tie.Need-sub-count
+sub-count c = omega (arith, c .before .before .before .before .hand-alike .ensures .1)
+
+cast-count : tie.Need-cast-count
+cast-count c = omega (arith, c .before .before .before .before .hand-alike .ensures .1, job (first (c .before .before .before .before)))
+
+rise-requires : tie.Need-rise-requires
+rise-requires c κs = search needs
+
+mul-t45 : tie.Need-mul-t45
+mul-t45 c = omega (arith, raised c, counts (ran c))
+
+add-t46 : tie.Need-add-t46
+add-t46 c = omega (arith, raised c, counts (ran c))
+
+mul-t47 : tie.Need-mul-t47
+mul-t47 c = omega (arith, counts (ran c))
+
+add-t48 : tie.Need-add-t48
+add-t48 c = omega (arith, counts (ran c))
 
 same-length : tie.Need-same-length
 same-length c = search needs
@@ -172,38 +211,47 @@ same-length-3 : tie.Need-same-length-3
 same-length-3 c = search needs
 
 returns : tie.Need-returns
-returns c = (
-  λ I v.
-      rw (c .before .before .before .before .before .before .before .before .hand .ensures .0, c .before .before .before .before .before .before .before .before .hand .ensures .1 .0, c .before .before .before .before .before .before .before .before .hand .ensures .1 .1 .0)
-      (given (c .before .before .before .before .before .before .before .before .before .before .before .before .before .before .before .before .before .before .before .before .before .before .before .before .before .before .before .before .args .machines .now) (c .before .before .before .before .before .before .before .before .before .before .before .before .before .before .before .before .before .before .before .before .before .before .before .before .before .before .before .before .args .jobs .now) (c .before .before .before .before .before .before .before .before .before .before .before .before .before .before .before .before .before .before .before .before .before .before .before .before .before .before .before .before .args .places .now) (c .before .before .before .before .before .before .before .before .before .before .before .before .before .before .before .before .before .before .before .before .before .before .before .before .before .before .before .before .args .loads .now) (c .before .before .before .before .before .before .before .before .before .before .before .before .before .before .before .before .before .before .before .before .before .before .before .before .before .before .before .before .args .levels .now) (c .before .before .before .before .before .before .before .before .before .before .before .before .before .before .before .before .before .before .before .before .before .before .before .before .before .before .before .before .args .lifts) (c .before .before .before .before .before .before .before .before .before .before .before .before .before .before .before .before .before .before .before .before .before .before .before .before .before .before .before .before .args .pushes) v
-      (c .before .before .before .before .before .before .before .before .before .before .before .before .before .before .before .least-for .result .machine) (c .before .before .before .before .before .before .before .before .before .before .before .before .before .before .before .least-for .result .height) (c .before .before .before .before .before .before .before .before .hand .result) (c .before .before .before .before .before .before .before .before .before .before .before .before .before .before .before .before .before .before .before .wide .result) (c .stays .result)
-      (lowest (c .before .before .before .before .before .before .before .before .before .before .before .before .before .before .before)) (c .before .before .before .before .before .before .before .before .before .before .before .before .before .before .before .before .before .before .before .wide .ensures) (c .before .before .before .before .before .before .before .before .hand .ensures .1 .1 .1)
-      (rw (c .before .before .before .before .before .before .before .before .hand .ensures .1 .1 .0) at (c .stays .ensures))),
-  (refl, loads-long (c .before .before .before .before .before .before .before .before)),
-)
+returns c =
+    let r = ran c in
+    let s = first r in
+    let e = r .hand-alike .ensures .1 in (
+      λ I v. rw (c .rise .ensures)
+          (r .hand-alike .ensures .0 I (s .args .a) (s .args .m) (s .args .machines .now) (s .args .levels .now) (s .args .lifts) (s .args .pushes) (aiming (most r) I v)),
+      (e .0, e .1, omega (arith, e), simp length-set),
+    )
 
 pub give-spec : {M : Type 1} → statement M
 give-spec =
     tie.close
     (tie.spec
-    mul-wide
-    shared-slice-read-wide
-    wide-requires
-    slice-read-below
+    slice-read-low
     below-requires
     mul-least-for
     shared-slice-read-least-for
     least-for-requires
     sub-j
-    mul-old
-    slice-read-old
-    cast-hand
-    hand-requires
+    add-g
+    cast-g
     mul-top
     cast-top
-    stays-requires
-    add-t30
-    add-t40
+    ahead-requires
+    with-requires
+    mul-most-on
+    slice-read-most-on
+    shared-slice-read-most-on
+    most-on-requires
+    hand-alike-requires
+    mul-loads
+    slice-write-loads
+    mul-loads-2
+    slice-write-loads-2
+    sub-count
+    cast-count
+    rise-requires
+    mul-t45
+    add-t46
+    mul-t47
+    add-t48
     same-length
     same-length-2
     same-length-3
