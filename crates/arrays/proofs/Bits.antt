@@ -1,17 +1,18 @@
--- The digits of a word, as tests: those of a conjunction, a disjunction, a power and a complement, and the lowest one.
+-- The digits of a word, as tests: those of a conjunction, a disjunction, a power, a complement and a shift, and the lowest one.
 -- Assumes nothing.
-use Prim.Native.Nat.{ℕ, zero, suc, _+_, _-_, _*_, _/_, _%_, _^_, _<_, min, max}
+use Prim.Native.Nat.{ℕ, zero, suc, _+_, _-_, _*_, _/_, _%_, _^_, _≤_, _<_, min, max}
 use mathlib.Core.Path.{_≡_, refl, sym, ap, _∙_}
 use mathlib.Core.Bool.{Bool, true, false, not}
-use native.Mathlib.Nat.{mod-lt, pow-suc, div-one, zero-lt-suc}
+use native.Mathlib.Nat.{mod-lt, pow-suc, div-one, zero-lt-suc, mul-one, sub-zero, div-eq-of-lt, lt-of-lt-of-le}
 use native.Mathlib.Numerals.{one-add}
 use native.Mathlib.Omega.{arith}
-use lib.Arith.{digits-div, digits-mod}
-use lib.Bits.{bitAnd, bitOr, and-step, or-step}
+use native.Mathlib.Decide.{decLe}
+use lib.Arith.{digits-div, digits-mod, mod-mul}
+use lib.Bits.{bitAnd, bitOr, and-step, or-step, shifted-half, shifted-even}
 use lib.Count.{trailingZeros, under}
-use lib.Pow.{shr-shr}
-use lib.Dec.{eqb, eqb·suc-suc}
-use borrow.Author.Tests.{eqb-true, eqb-false, eq-eqb, ne-eqb}
+use lib.Pow.{shr-shr, pow-pos, pow-mono}
+use lib.Dec.{eqb, leb, ltb, eqb·suc-suc}
+use borrow.Author.Tests.{eqb-true, eqb-false, eq-eqb, ne-eqb, le-leb, lt-leb, lt-ltb, le-ltb}
 use Rattle.rules.specs.Fold.{_and_, _or_}
 use Rattle.theory.proofs.Logic.{byTest}
 
@@ -98,6 +99,63 @@ bit-not (suc w) a (suc k) h l =
     let e : (2 ^ suc w - 1 - a) / 2 ≡ 2 ^ w - 1 - a / 2 = omega arith in
     ap (λ (x : ℕ). bit x k) e ∙ bit-not w (a / 2) k (omega arith) (omega arith)
 
+-- ---- shifts
+
+low-step : (w x : ℕ) → x % 2 ^ suc w ≡ x / 2 % 2 ^ w * 2 + x % 2
+low-step w x = rw (pow-suc 2 w) (mod-mul x (pow-pos w) (zero-lt-suc 1))
+
+pub bit-low : (w x k : ℕ) → k < w → bit (x % 2 ^ w) k ≡ bit x k
+unfolding bit
+bit-low zero x k l = absurd (omega arith)
+bit-low (suc w) x zero l =
+    ap (λ (y : ℕ). eqb y 1) (ap (λ (y : ℕ). y % 2) (low-step w x) ∙ digits-mod (x / 2 % 2 ^ w) (mod-lt x (zero-lt-suc 1)))
+bit-low (suc w) x (suc k) l =
+    ap (λ (y : ℕ). bit y k) (ap (λ (y : ℕ). y / 2) (low-step w x) ∙ digits-div (x / 2 % 2 ^ w) (mod-lt x (zero-lt-suc 1)))
+    ∙ bit-low w (x / 2) k (omega arith)
+
+pub bit-high : (w x k : ℕ) → x < 2 ^ w → w ≤ k → bit x k ≡ false
+bit-high w x k h l =
+    let p = pow-mono l in
+    sym (bit-shift x k) ∙ (let e : x / 2 ^ k ≡ 0 = div-eq-of-lt (lt-of-lt-of-le h p) in rw e)
+
+pub bit-shr : (x s k : ℕ) → bit (x / 2 ^ s) k ≡ bit x (s + k)
+bit-shr x s k = sym (bit-shift (x / 2 ^ s) k) ∙ rw (shr-shr x s k) (bit-shift x (s + k))
+
+pub bit-shl-low : (x s k : ℕ) → k < s → bit (x * 2 ^ s) k ≡ false
+unfolding bit
+bit-shl-low x zero k l = absurd (omega arith)
+bit-shl-low x (suc s) zero l = rw (shifted-even x s)
+bit-shl-low x (suc s) (suc k) l = rw (shifted-half x s) (bit-shl-low x s k (omega arith))
+
+pub bit-shl : (x s k : ℕ) → s ≤ k → bit (x * 2 ^ s) k ≡ bit x (k - s)
+unfolding bit
+bit-shl x zero k l = rw (mul-one x, sub-zero k)
+bit-shl x (suc s) zero l = absurd (omega arith)
+bit-shl x (suc s) (suc k) l =
+    let e : suc k - suc s ≡ k - s = omega arith in
+    rw (shifted-half x s, e) (bit-shl x s k (omega arith))
+
+-- every digit of the greatest word is set
+pub bit-ones : (w k : ℕ) → k < w → bit (2 ^ w - 1) k ≡ true
+bit-ones w k l = rw (← sub-zero (2 ^ w - 1)) (bit-not w 0 k (pow-pos w) l ∙ ap not (bit-zero k))
+
+-- those from lo on, and those below hi
+pub bit-from : (w lo k : ℕ) → k < w → bit ((2 ^ w - 1) * 2 ^ lo % 2 ^ w) k ≡ leb lo k
+bit-from w lo k l =
+    bit-low w ((2 ^ w - 1) * 2 ^ lo) k l
+    ∙ elim (decLe lo k) [
+      | yes z ↦ bit-shl (2 ^ w - 1) lo k z ∙ bit-ones w (k - lo) (omega arith) ∙ sym (le-leb lo k z)
+      | no z ↦ bit-shl-low (2 ^ w - 1) lo k (omega arith) ∙ sym (lt-leb lo k (omega arith))
+    ]
+
+pub bit-to : (w hi k : ℕ) → hi ≤ w → bit ((2 ^ w - 1) / 2 ^ (w - hi)) k ≡ ltb k hi
+bit-to w hi k l =
+    bit-shr (2 ^ w - 1) (w - hi) k
+    ∙ elim (decLe hi k) [
+      | yes z ↦ bit-high w (2 ^ w - 1) (w - hi + k) (omega (arith, pow-pos w)) (omega arith) ∙ sym (le-ltb k hi z)
+      | no z ↦ bit-ones w (w - hi + k) (omega arith) ∙ sym (lt-ltb k hi (omega arith))
+    ]
+
 -- ---- the lowest digit that is set
 
 pub bits-none : (w x : ℕ) → x < 2 ^ w → ((k : ℕ) → k < w → bit x k ≡ false) → x ≡ 0
@@ -129,3 +187,10 @@ pub trailing-set : (w x : ℕ) → trailingZeros w x < w → bit x (trailingZero
 unfolding trailingZeros
 trailing-set zero x h = absurd (omega arith)
 trailing-set (suc w) x h = set-step x (trailingZeros w (x / 2)) w (trailing-set w (x / 2)) (x % 2) refl h
+
+-- a word of w digits that is not 0 has one set, whatever the width that is counted to
+pub trailing-small : (v w x : ℕ) → w ≤ v → x < 2 ^ w → (x ≡ 0 → ⊥) → trailingZeros v x < w
+trailing-small v w x l h n = elim (decLe w (trailingZeros v x)) [
+  | yes z ↦ absurd (n (bits-none w x h (λ k u. trailing-clear v x k (omega arith))))
+  | no z ↦ omega arith
+]

@@ -2,6 +2,7 @@ pub mod Bits
 pub mod Entries
 pub mod Filling
 pub mod Floor
+pub mod JobRows
 pub mod Levels
 pub mod Loads
 pub mod Masks

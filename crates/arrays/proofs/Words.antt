@@ -5,7 +5,6 @@ use mathlib.Core.Path.{_≡_, sym, ap, ap₂, _∙_}
 use mathlib.Core.Bool.{Bool, true, false, not}
 use native.Mathlib.Nat.{mod-eq-of-lt, lt-of-le-of-lt, one-mul}
 use native.Mathlib.Omega.{arith}
-use native.Mathlib.Decide.{decLe}
 use lib.Bits.{bitAnd, bitOr, and-le-l, and-le-r, or-lt}
 use lib.Count.{trailingZeros}
 use lib.Pow.{pow-lt}
@@ -16,13 +15,13 @@ use Rattle.theory.proofs.Logic.{byTest}
 use Rattle.theory.proofs.View.{None, first-miss, first-hit, any-none}
 use Rattle.arrays.specs.Sets.{has, SetOf, meet}
 use Rattle.arrays.proofs.Search.{any-miss}
-use Rattle.arrays.proofs.Bits.{bit, bit-shift, bit-and, bit-or, bit-zero, bit-power, bit-not, bits-none, trailing-clear, trailing-set}
+use Rattle.arrays.proofs.Bits.{bit, bit-shift, bit-and, bit-or, bit-zero, bit-power, bit-not, bits-none, trailing-clear, trailing-set, trailing-small}
 
 pub has-bit : (x i : ℕ) → has x i ≡ bit x (i - 1)
 unfolding has
 has-bit x i = bit-shift x (i - 1)
 
-has-suc : (x k : ℕ) → has x (suc k) ≡ bit x k
+pub has-suc : (x k : ℕ) → has x (suc k) ≡ bit x k
 has-suc x k = has-bit x (suc k) ∙ (let e : suc k - 1 ≡ k = omega arith in rw e)
 
 -- ---- the operations
@@ -93,15 +92,9 @@ module _ (x : ℕ) (h : x < 2 ^ 24) (n : x ≡ 0 → ⊥) where
   clear : (i : ℕ) → 0 < i → i ≤ trailingZeros 32 x → has x i ≡ false
   clear i l u = has-bit x i ∙ trailing-clear 32 x (i - 1) (omega arith)
 
-  trailing-small : trailingZeros 32 x < 24
-  trailing-small = elim (decLe 24 (trailingZeros 32 x)) [
-    | yes l ↦ absurd (n (empty-zero x h (λ i p q. clear i p (omega arith))))
-    | no l ↦ omega arith
-  ]
-
   pub lowest-some : firstTo 24 (λ i. has x i) ≡ suc (trailingZeros 32 x)
   lowest-some =
-      let s = trailing-small in
+      let s = trailing-small 32 24 x (omega arith) h n in
       first-hit 24 (λ i. has x i) (trailingZeros 32 x) s clear
       (has-suc x (trailingZeros 32 x) ∙ trailing-set 32 x (omega arith))
 

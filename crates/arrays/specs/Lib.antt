@@ -1,3 +1,3 @@
 pub mod Floor
-pub mod Jobs
 pub mod Sets
+pub mod Rows

@@ -1,12 +1,9 @@
 // Searches over machines and jobs, on lent arrays. Numbers start at 1, and 0 stands for none.
 ghost use mathlib.Core.Path.{_≡_};
-ghost use Prim.Native.Nat.{ℕ, suc, _+_, _<_, _≤_};
+ghost use Prim.Native.Nat.{ℕ, _<_, _≤_};
 ghost use lib.ListN.{length};
 ghost use lib.Dec.{leb, ltb, eqb};
-ghost use Rattle.rules.specs.Fold.{_and_, pick, at, firstTo, anyTo, leastTo, maxTo, sumTo};
-ghost use Rattle.theory.proofs.View.{None};
-ghost use Rattle.arrays.specs.Floor.{less, floorTo};
-ghost use Rattle.arrays.specs.Jobs.{standing, NoneIn};
+ghost use Rattle.rules.specs.Fold.{_and_, pick, at, firstTo, anyTo, maxTo, sumTo};
 
 // The lowest machine of more load than `cap` and of height `top` at most.
 pub fn first_able(loads: &[u32], heights: &[u8], m: usize, cap: u32, top: u8) -> usize
@@ -36,148 +33,6 @@ pub fn some_at_most(loads: &[u32], m: usize, a: u32) -> bool
         i += 1;
     }
     false
-}
-
-// 1 for a job on machine `i` of height `low`, 0 for any other.
-fn mark(place: u8, i: u8, height: u8, low: u8) -> u8
-    ensures { λ r. ⌜ r ≡ pick (eqb place i and eqb height low) 1 0 ⌝ }
-{
-    if place == i && height == low { 1 } else { 0 }
-}
-
-// 0 where none of the 16 jobs after `from` is on machine `i` and of height `low`.
-fn marks(places: &[u8], heights: &[u8], i: u8, low: u8, from: usize) -> u8
-    requires { ⌜ (from + 16 ≤ length (now places)) × (from + 16 ≤ length (now heights)) ⌝ }
-    ensures { λ r. ⌜ (r ≡ 0 → NoneIn from 16 (λ b. standing (now (places .entry)) (now (heights .entry)) i low b)) ⌝ }
-{
-    let mut any: u8 = 0;
-    let mut k: usize = 0;
-    while k < 16 {
-        any = any | mark(places[from + k], i, heights[from + k], low);
-        k += 1;
-    }
-    any
-}
-
-// Passes over 16 jobs after `from` at a time, while none of them is on machine `i` and of height `low`.
-fn skip(places: &[u8], heights: &[u8], n: usize, i: u8, low: u8, from: usize) -> usize
-    requires { ⌜ (n ≤ length (now places)) × (n ≤ length (now heights)) × (from ≤ n)
-        × None from (λ b. standing (now places) (now heights) i low b) ⌝ }
-    ensures { λ r. ⌜ (r ≤ n) × None r (λ b. standing (now (places .entry)) (now (heights .entry)) i low b) ⌝ }
-{
-    let mut b = from;
-    while b + 16 <= n {
-        if marks(places, heights, i, low, b) != 0 {
-            return b;
-        }
-        b += 16;
-    }
-    b
-}
-
-// The lowest job on machine `i` of height `low`. None of the jobs 1 to `from` is such.
-fn find(places: &[u8], heights: &[u8], n: usize, i: u8, low: u8, from: usize) -> usize
-    requires { ⌜ (n ≤ length (now places)) × (n ≤ length (now heights)) × (from ≤ n)
-        × None from (λ b. standing (now places) (now heights) i low b) ⌝ }
-    ensures { λ r. ⌜ r ≡ firstTo n (λ b. standing (now (places .entry)) (now (heights .entry)) i low b) ⌝ }
-{
-    let mut b = from;
-    while b < n {
-        if places[b] == i && heights[b] == low {
-            return b + 1;
-        }
-        b += 1;
-    }
-    0
-}
-
-// Job `b`, by index, is on machine `i` and of height `low`.
-fn stands(places: &[u8], heights: &[u8], n: usize, b: usize, i: u8, low: u8) -> bool
-    requires { ⌜ (n ≤ length (now places)) × (n ≤ length (now heights)) ⌝ }
-    ensures { λ r. ⌜ r ≡ (ltb b n and standing (now (places .entry)) (now (heights .entry)) i low (suc b)) ⌝ }
-{
-    if b >= n {
-        return false;
-    }
-    if places[b] != i {
-        return false;
-    }
-    heights[b] == low
-}
-
-// The lowest job on machine `i` whose height is one less than `h`. None of the jobs 1 to `from` is such.
-pub fn next_off(places: &[u8], heights: &[u8], n: usize, i: u8, h: u8, from: usize) -> usize
-    requires { ⌜ (n ≤ length (now places)) × (n ≤ length (now heights)) × (from ≤ n)
-        × None from (λ b. eqb (at (now places) b) i and eqb h (suc (at (now heights) b))) ⌝ }
-    ensures { λ r. ⌜ r ≡ firstTo n (λ b. eqb (at (now (places .entry)) b) i and eqb h (suc (at (now (heights .entry)) b))) ⌝ }
-{
-    if h == 0 {
-        return 0;
-    }
-    let low = h - 1;
-    if stands(places, heights, n, from, i, low) {
-        return from + 1;
-    }
-    let b = skip(places, heights, n, i, low, from);
-    find(places, heights, n, i, low, b)
-}
-
-// Some job is on machine `i`.
-pub fn some_on(places: &[u8], n: usize, i: u8) -> bool
-    requires { ⌜ n ≤ length (now places) ⌝ }
-    ensures { λ r. ⌜ r ≡ anyTo n (λ b. eqb (at (now (places .entry)) b) i) ⌝ }
-{
-    let mut b: usize = 0;
-    while b < n {
-        if places[b] == i {
-            return true;
-        }
-        b += 1;
-    }
-    false
-}
-
-// `h` for a job on machine `i`, 255 for any other.
-fn height_on(place: u8, i: u8, h: u8) -> u8
-    ensures { λ r. ⌜ r ≡ pick (eqb place i) h 255 ⌝ }
-{
-    if place == i { h } else { 255 }
-}
-
-// The lower of two.
-fn lower(a: u8, b: u8) -> u8
-    ensures { λ r. ⌜ r ≡ less a b ⌝ }
-{
-    if b < a { b } else { a }
-}
-
-// The lowest height of a job on machine `i`, 255 where there is none.
-fn floor_on(places: &[u8], heights: &[u8], n: usize, i: u8) -> u8
-    requires { ⌜ (n ≤ length (now places)) × (n ≤ length (now heights)) ⌝ }
-    ensures { λ r. ⌜ r ≡ floorTo n (λ b. eqb (at (now (places .entry)) b) i) (λ b. at (now (heights .entry)) b) ⌝ }
-{
-    let mut least: u8 = 255;
-    let mut b: usize = 0;
-    while b < n {
-        least = lower(least, height_on(places[b], i, heights[b]));
-        b += 1;
-    }
-    least
-}
-
-// The lowest height of a job on machine `i`, 0 where there is none.
-pub fn lowest_on(places: &[u8], heights: &[u8], n: usize, i: u8) -> u8
-    requires { ⌜ (n ≤ length (now places)) × (n ≤ length (now heights)) ⌝ }
-    ensures { λ r. ⌜ r ≡ at (now (heights .entry)) (leastTo n (λ b. eqb (at (now (places .entry)) b) i) (λ b. at (now (heights .entry)) b)) ⌝ }
-{
-    let least = floor_on(places, heights, n, i);
-    if least < 255 {
-        return least;
-    }
-    if some_on(places, n, i) {
-        return 255;
-    }
-    0
 }
 
 // The most minutes of a job.

@@ -1,5 +1,6 @@
 pub mod Drawing
 pub mod Gains
+pub mod Lows
 pub mod Placing
 pub mod Relocate
 pub mod Reviewing

@@ -107,6 +107,7 @@ pub record Ready (m c : ℕ) (lengths places loads : List ℕ) (b t : ℕ) : Typ
   pub held : c ≤ length places
   pub placed : 0 < getD places (b - 1) 0
   pub from : getD places (b - 1) 0 ≤ length loads
+  pub numbered : getD places (b - 1) 0 ≤ m
   pub goes : 0 < t
   pub to : t ≤ m
   pub has : getD lengths (b - 1) 0 ≤ getD loads (getD places (b - 1) 0 - 1) 0
@@ -130,6 +131,7 @@ module _ {I : Instance} {m c : ℕ} {lengths sets places loads : List ℕ} (r : 
         held = places-long r p;
         placed = omega (arith, q .0, at-b);
         from = omega (arith, q .1, at-b, p .long);
+        numbered = omega (arith, q .1, at-b);
         goes = omega (arith, g .0, f);
         to = omega (arith, g .1, f);
         has = omega (arith, load-has r p b l e, at-w, at-p, at-i);

@@ -1,12 +1,13 @@
 -- What settling and review say over arrays: who would finish earlier elsewhere, and placements with their loads beside them.
 -- Assumes nothing.
-use Prim.Native.Nat.{ℕ, _+_, _≤_, _<_}
+use Prim.Native.Nat.{ℕ, suc, _+_, _≤_, _<_}
 use mathlib.Core.Path.{_≡_}
-use mathlib.Core.Bool.{Bool, not}
+use mathlib.Core.Bool.{Bool, true, not}
+use mathlib.Core.Logic.{_≢_, _⊎_}
 use mathlib.Core.List.{List}
-use lib.ListN.{length, take, drop}
+use lib.ListN.{length, take, drop, getD}
 use lib.Dec.{ltb, eqb}
-use Rattle.rules.specs.Fold.{_and_, at, anyTo}
+use Rattle.rules.specs.Fold.{_and_, at, anyTo, greatestTo}
 use Rattle.rules.specs.Instance.{Instance}
 use Rattle.rules.specs.Load.{load, review}
 use Rattle.rules.specs.Settle.{mover, moved, settle}
@@ -25,6 +26,44 @@ gainsAt loads mask place w i = other mask place i and ltb (at loads i + w) (at l
 -- on some machine
 unfoldable pub gains : List ℕ → ℕ → ℕ → ℕ → ℕ → Bool
 gains loads mask place w m = anyTo m (λ i. gainsAt loads mask place w i)
+
+-- no machine of the set has less load than r
+pub record Bound (loads : List ℕ) (mask m r : ℕ) : Type 0 where
+  pub each : (i : ℕ) → 0 < i → i ≤ m → has mask i ≡ true → r ≤ at loads i
+
+-- and one has load r, or none is in the set and r is the most that a word holds
+pub record LeastIn (loads : List ℕ) (mask m r : ℕ) : Type 0 where
+  pub bound : Bound loads mask m r
+  pub held : (cap : ℕ) → r < cap → cap ≤ 4294967295 → anyTo m (λ i. ltb (at loads i) cap and has mask i) ≡ true
+
+-- each of the c jobs has such a bound beside its set
+pub record Bounds (m c : ℕ) (sets loads lows : List ℕ) : Type 0 where
+  pub long : c ≤ length lows
+  pub each : (b : ℕ) → b < c → Bound loads (getD sets b 0) m (getD lows b 0)
+
+-- the bound at index b is renewed
+pub record Renewed (loads : List ℕ) (mask m : ℕ) (old new : List ℕ) (b : ℕ) : Type 0 where
+  pub long : length new ≡ length old
+  pub here : Bound loads mask m (getD new b 0)
+  pub same : (k : ℕ) → k ≢ b → getD new k 0 ≡ getD old k 0
+
+-- no bound has grown but up to `floor`, and of the first c jobs those that may run on the machine at index i have `load` at most, or `floor`
+pub record Cut (sets : List ℕ) (c i load floor : ℕ) (old new : List ℕ) : Type 0 where
+  pub long : length new ≡ length old
+  pub under : (b x : ℕ) → floor ≤ x → getD old b 0 ≤ x → getD new b 0 ≤ x
+  pub within : (b x : ℕ) → b < c → has (getD sets b 0) (suc i) ≡ true → floor ≤ x → load ≤ x → getD new b 0 ≤ x
+
+-- a job of w minutes on a machine of load `top` has fewer than `need`, or does not finish earlier on a machine of load `low`
+pub record Stays (low top w need : ℕ) : Type 0 where
+  pub either : (w < need) ⊎ (top ≤ low + w)
+
+-- each of the jobs from the index `from` on, up to `to`, is such
+pub record AllStay (loads places lengths lows : List ℕ) (need from to : ℕ) : Type 0 where
+  pub each : (b : ℕ) → from ≤ b → b < to → Stays (getD lows b 0) (at loads (getD places b 0)) (getD lengths b 0) need
+
+-- of the jobs 1 to c, the longest that would finish earlier elsewhere, the lowest number on a tie
+unfoldable pub longest : List ℕ → List ℕ → List ℕ → List ℕ → ℕ → ℕ → ℕ
+longest loads places lengths sets m c = greatestTo c (λ b. gains loads (at sets b) (at places b) (at lengths b) m) (λ b. at lengths b)
 
 -- each of the c jobs has a place that it may have, and the loads of the m machines stand beside
 pub record Placing (I : Instance) (m c : ℕ) (places loads : List ℕ) : Type 0 where

@@ -2,7 +2,7 @@
 -- Assumes nothing.
 use Prim.Native.Nat.{ℕ, zero, suc, _+_, _-_, _≤_, _<_}
 use mathlib.Core.Path.{_≡_, refl, sym, ap, _∙_}
-use mathlib.Core.Bool.{Bool, true, false, not}
+use mathlib.Core.Bool.{Bool, true, false, not, _||_}
 use mathlib.Core.List.{List, [], _∷_, _++_}
 use native.Mathlib.Numerals.{add-one}
 use native.Mathlib.Omega.{arith}
@@ -21,7 +21,7 @@ use Rattle.sheet.specs.declared.read.Field.{Field}
 use Rattle.sheet.specs.declared.read.Field.the-variants.{Value, Fault}
 use Rattle.sheet.specs.declared.read.Placing.the-variants.{On, Unlisted}
 use Rattle.sheet.specs.Represent.{padded}
-use Rattle.sheet.specs.Lines.{codedField}
+use Rattle.sheet.specs.Lines.{codedField, placingOf}
 
 -- ---- a number between two
 
@@ -101,13 +101,14 @@ module _ (l : List ℕ) (i x : ℕ) where
   unfolding mem
   mem-end h = rw (drop-of-length-le l h)
 
-  pub mem-here : i < length l → getD l i 0 ≡ x → mem x (drop i l) ≡ true
-  unfolding mem _or_
-  mem-here h e = rw (drop-cons l i 0 h, eq-eqb (getD l i 0) x e)
+  pub mem-next : i < length l → mem x (drop i l) ≡ eqb (getD l i 0) x or mem x (drop (i + 1) l)
+  unfolding mem
+  mem-next h = rw (drop-cons l i 0 h) (rw add-one)
 
-  pub mem-past : i < length l → (getD l i 0 ≡ x → ⊥) → mem x (drop i l) ≡ mem x (drop (i + 1) l)
-  unfolding mem _or_
-  mem-past h e = rw (drop-cons l i 0 h, ne-eqb (getD l i 0) x e) (rw add-one)
+pub or-step : (f t b : Bool) → (f || t) or b ≡ f or (t or b)
+unfolding _or_
+or-step true t b = refl
+or-step false t b = refl
 
 -- each entry of a list of bytes is a byte
 pub mem-byte : (l : List ℕ) (x : ℕ) → ((i : ℕ) → getD l i 0 < 256) → mem x l ≡ true → x < 256
@@ -163,6 +164,22 @@ row-more k l x r h =
 
 pub row-take : (k : ℕ) (l : List ℕ) (x : ℕ) → Row k l → k < 24 → take (k + 1) (set l k x) ≡ take k l ++ (x ∷ [])
 row-take k l x r h = rw add-one (take-suc-set l k x (omega (arith, r .size)))
+
+-- zeros behind a list name no instrument
+mem-zeros : (p : ℕ) (l : List ℕ) (k : ℕ) → (p ≡ 0 → ⊥) → mem p (l ++ replicate k 0) ≡ mem p l
+unfolding mem _or_
+mem-zeros p [] zero h = refl
+mem-zeros p [] (suc k) h = rw (ne-eqb 0 p (λ e. h (sym e))) (mem-zeros p [] k h)
+mem-zeros p (x ∷ l) k h = ap (λ (t : Bool). eqb x p or t) (mem-zeros p l k h)
+
+placing-zeros : (p : ℕ) (l : List ℕ) (k : ℕ) → 0 < length l → placingOf p (l ++ replicate k 0) ≡ placingOf p l
+unfolding _or_
+placing-zeros p [] k h = absurd (omega arith)
+placing-zeros zero (x ∷ l) k h = refl
+placing-zeros (suc p) (x ∷ l) k h = rw (mem-zeros (suc p) (x ∷ l) k (λ e. omega arith))
+
+pub row-placing : (p k : ℕ) (l : List ℕ) → 0 < length (take k l) → padded 24 (take k l) ≡ l → placingOf p l ≡ placingOf p (take k l)
+row-placing p k l h e = ap (placingOf p) (sym e) ∙ placing-zeros p (take k l) (24 - length (take k l)) h
 
 -- ---- the instruments of a list, after k of c are read into l
 

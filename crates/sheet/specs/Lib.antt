@@ -1,5 +1,6 @@
 pub mod Represent
 pub mod Answers
 pub mod Change
+pub mod Columns
 pub mod Lines
 pub mod View

@@ -5,6 +5,7 @@ ghost use lib.ListN.{length};
 ghost use lib.Seq.{paste};
 ghost use Rattle.sheet.specs.Represent.{appended, blank};
 
+mod columns;
 pub mod edit;
 pub mod read;
 pub mod view;

@@ -4,14 +4,18 @@ ghost use mathlib.Core.List.{[]};
 ghost use Prim.Native.Nat.{_≤_, _<_};
 ghost use lib.ListN.{length, take, drop};
 ghost use Rattle.rules.specs.Fold.{mem};
-ghost use Rattle.rules.specs.Field.{digits, blanks, field};
+ghost use Rattle.rules.specs.Field.{field};
 ghost use Rattle.rules.specs.Read.{headLine, instrumentsAt, batchLine, batchLines};
 ghost use Rattle.sheet.specs.Represent.{padded};
+ghost use Rattle.sheet.specs.Columns.{numbered};
 ghost use Rattle.sheet.specs.Lines.{codedField, noHead, headAs, noList, listAs, noLine, lineAs, placingOf, lineEnd, lineList, unread};
 ghost use Rattle.sheet.specs.Answers.{readAs, readOf};
 use crate::Reading;
 use crate::Refusal;
 use crate::Sheet;
+use crate::columns::FAULT;
+use crate::columns::number;
+use crate::columns::small_number;
 use crate::enter_part;
 
 // What a field gives: its number, or the fault that is refusal 1.
@@ -20,57 +24,36 @@ pub enum Field {
     Fault,
 }
 
-// The number whose digits fill s from at on.
-fn number(s: &[u8], at: usize) -> Field
-    requires { ⌜ (at ≤ length (now s)) × (length (now s) ≤ 6) ⌝ }
-    ensures { λ r. ⌜ r ≡ codedField (digits (drop at (now (s .entry))) 0) ⌝ }
+// The columns' answer as a field.
+fn given(v: u32) -> Field
+    ensures { λ r. ⌜ r ≡ codedField (numbered v) ⌝ }
 {
-    let mut i = at;
-    let mut w: u32 = 0;
-    while i < s.len() {
-        let b = s[i];
-        if b < b'0' {
-            return Field::Fault;
-        }
-        if b'9' < b {
-            return Field::Fault;
-        }
-        w = 10 * w + (b - b'0') as u32;
-        i += 1;
-    }
-    Field::Value(w)
-}
-
-// Six columns: blanks, then a number that does not start with 0, or the one digit 0.
-fn columns(s: &[u8]) -> Field
-    requires { ⌜ length (now s) ≡ 6 ⌝ }
-    ensures { λ r. ⌜ r ≡ codedField (blanks (now (s .entry))) ⌝ }
-{
-    let mut i = 0;
-    while i < s.len() {
-        let b = s[i];
-        if b != b' ' {
-            if b != b'0' {
-                return number(s, i);
-            }
-            if i != 5 {
-                return Field::Fault;
-            }
-            return Field::Value(0);
-        }
-        i += 1;
+    if v < FAULT {
+        return Field::Value(v);
     }
     Field::Fault
 }
 
-// The field at the front of s, the rest of the sheet.
+// The field at the front of s, the rest of the sheet. Quickest below 100, as most fields are.
 pub fn field_at(s: &[u8]) -> Field
     ensures { λ r. ⌜ r ≡ codedField (field (now (s .entry))) ⌝ }
 {
     if s.len() < 6 {
         return Field::Fault;
     }
-    columns(&s[..6])
+    let v = small_number(&s[..6]);
+    given(v)
+}
+
+// The same, quickest from 100 on.
+fn long_field_at(s: &[u8]) -> Field
+    ensures { λ r. ⌜ r ≡ codedField (field (now (s .entry))) ⌝ }
+{
+    if s.len() < 6 {
+        return Field::Fault;
+    }
+    let v = number(&s[..6]);
+    given(v)
 }
 
 // What line 1 gives: m and n, and where the next line starts. A refusal comes with its line, and 0 for all else.
@@ -133,19 +116,18 @@ fn head_line(s: &[u8], at: usize, line: usize) -> Head
     }
 }
 
-// Whether l names x.
+// Whether l names x. All of l is looked at: where x stands is hard to predict.
 fn names(l: &[u8], x: u32) -> bool
     ensures { λ r. ⌜ r ≡ mem x (now (l .entry)) ⌝ }
 {
+    let mut found = false;
     let mut i = 0;
     while i < l.len() {
         let b = l[i];
-        if b as u32 == x {
-            return true;
-        }
+        found = found | (b as u32 == x);
         i += 1;
     }
-    false
+    found
 }
 
 // What a list of instruments gives: the list, 0 past its end, and where what follows it starts.
@@ -249,7 +231,8 @@ fn place_in(l: &[u8], p: u32) -> Placing
     Placing::Unlisted
 }
 
-// The end of a batch line whose list of count instruments is read: its LF, and then the place.
+// The end of a batch line whose list of count instruments is read: its LF, and then the place, for which the zeros past the
+// list do not matter.
 fn line_end(
     s: &[u8],
     at: usize,
@@ -268,7 +251,7 @@ fn line_end(
     if s[at] != b'\n' {
         return Line::refused(Refusal::Malformed, line);
     }
-    let Placing::On(p) = place_in(&list[..count], place) else {
+    let Placing::On(p) = place_in(&list, place) else {
         return Line::refused(Refusal::BadPlace, line);
     };
     Line {
@@ -310,7 +293,7 @@ fn batch_line(s: &[u8], at: usize, line: usize, m: usize) -> Line
     requires { ⌜ (at ≤ length (now s)) × (m ≤ 24) ⌝ }
     ensures { λ r. ⌜ r ≡ lineAs (length (now (s .entry))) line (batchLine m (drop at (now (s .entry)))) ⌝ }
 {
-    let Field::Value(t) = field_at(&s[at..]) else {
+    let Field::Value(t) = long_field_at(&s[at..]) else {
         return Line::refused(Refusal::Malformed, line);
     };
     if t < 1 {

@@ -1,4 +1,5 @@
 pub mod Alike
+pub mod Around
 pub mod Beginning
 pub mod Given
 pub mod Giving
@@ -8,6 +9,7 @@ pub mod Handing
 pub mod Kept
 pub mod Lifting
 pub mod Moving
+pub mod Near
 pub mod Raising
 pub mod Reaching
 pub mod Running
@@ -17,5 +19,4 @@ pub mod Take
 pub mod Trying
 pub mod Turning
 pub mod Verdict
-pub mod Watch
 pub mod Within

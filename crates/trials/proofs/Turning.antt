@@ -1,7 +1,7 @@
 -- A machine's turn, from one hand-over to the next.
 -- Assumes nothing.
-use Prim.Native.Nat.{ℕ, suc, _+_, _-_, _≤_, _<_}
-use mathlib.Core.Path.{_≡_, sym, _∙_}
+use Prim.Native.Nat.{ℕ, zero, suc, _+_, _-_, _≤_, _<_}
+use mathlib.Core.Path.{_≡_, refl, sym, ap, subst, _∙_}
 use mathlib.Core.Bool.{Bool, true, false, true≢false}
 use mathlib.Core.List.{List}
 use native.Mathlib.Numerals.{add-one}
@@ -16,7 +16,7 @@ use Rattle.theory.proofs.View.{None, First, first, none-zero}
 use Rattle.theory.proofs.Iterate.{here, leads-trans}
 use Rattle.theory.proofs.Turn.{nextOff}
 use Rattle.trials.specs.declared.State.{State}
-use Rattle.trials.specs.Track.{stateOf, Giving, Onward, Passing, Went, Along}
+use Rattle.trials.specs.Track.{stateOf, arrays, Turn, Passed, Giving, Onward, Passing, Went, Along}
 use Rattle.trials.proofs.Handing.{machine-in}
 use Rattle.trials.proofs.Raising.{next-by}
 
@@ -87,3 +87,7 @@ module _ {I : Instance} {a limit m c : ℕ} {lengths sets : List ℕ} {i : ℕ} 
         turn = o .turn e;
         passed = o .passed;
       }
+
+-- what is passed may be forgotten
+pub along-again : {I : Instance} {a i from : ℕ} {t t′ : State} → Along I a i from t t′ → Along I a i 0 t t′
+along-again k = record { leads = k .leads; turn = k .turn; passed = none-zero _ }

@@ -2,3 +2,4 @@ pub mod Attempt
 pub mod Grouping
 pub mod Reads
 pub mod Track
+pub mod Near

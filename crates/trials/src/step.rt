@@ -2,24 +2,24 @@
 ghost use mathlib.Core.Path.{_≡_};
 ghost use mathlib.Core.Bool.{true, false};
 ghost use mathlib.Core.List.{List};
-ghost use Prim.Native.Nat.{ℕ, _+_, _-_, _≤_, _<_};
+ghost use Prim.Native.Nat.{ℕ, suc, _+_, _-_, _≤_, _<_};
 ghost use lib.ListN.{length, getD};
-ghost use lib.Bits.{bitAnd};
 ghost use lib.Dec.{ltb, eqb};
 ghost use Rattle.rules.specs.Fold.{_and_, pick};
 ghost use Rattle.rules.specs.Instance.{Instance};
-ghost use Rattle.arrays.specs.Sets.{Leveled};
-ghost use Rattle.trials.specs.Track.{arrays, Ahead, Giving, Gives, Aiming, Onward, after, Passing, Goes, Stepping, Steps, restOf};
+ghost use Rattle.trials.specs.Near.{Near, Ranged, Moves, Rises};
+ghost use Rattle.trials.specs.Track.{arrays, stateWith, Wide, Giving, Gives, Aiming, Onward, after, Passing, Goes, Stepping, Steps};
 use crate::State;
-use crate::group::all_machines;
+use arrays::rows::clear_row;
+use arrays::rows::copy_row;
+use arrays::rows::first_in;
+use arrays::rows::put_in;
+use arrays::rows::some_in;
+use arrays::rows::take_out;
 use arrays::scan::first_able;
-use arrays::scan::lowest_on;
-use arrays::scan::next_off;
 use arrays::scan::some_at_most;
-use arrays::sets::common;
 use arrays::sets::least_for;
 use arrays::sets::lift_level;
-use arrays::sets::with;
 
 // The minutes that a job takes along from machine i to machine j: none where it comes straight back.
 fn weigh(minutes: u16, i: usize, j: usize) -> u32
@@ -35,8 +35,8 @@ fn rise(low: u8, g: u8) -> u32
     if low == g { 0 } else { 1 }
 }
 
-// A load that machine j, now of load y and height h, may come to while it stays machine i's turn: above it j has the turn, or may have
-// been the last underloaded one.
+// A load that machine j, now of load y and height h, may come to while it stays machine i's turn: above it j has the turn, or was the
+// last underloaded one.
 fn most_on(y: u32, h: u8, a: u32, limit: u32, top: u8, i: usize, j: usize) -> u32
     requires { ⌜ a ≤ limit ⌝ }
     ensures { λ r. ⌜ (y ≤ a → r ≤ a) × (j < i → h ≤ top → r ≤ limit) ⌝ }
@@ -50,22 +50,7 @@ fn most_on(y: u32, h: u8, a: u32, limit: u32, top: u8, i: usize, j: usize) -> u3
     if h <= top { limit } else { 4294967295 }
 }
 
-// The machines that a job goes to before it goes to `machine` at level `height`, and that machine: those at the levels from `from` on
-// below `height`, and those at `height` up to `machine`.
-fn ahead(levels: &[u32], from: usize, machine: usize, height: usize) -> u32
-    requires { ⌜ Leveled (now levels) × (from ≤ height) × (height < 64) × (machine ≤ 24) ⌝ }
-    ensures { λ r. ⌜ Ahead (now (levels .entry)) from machine height r ⌝ }
-{
-    let mut x = common(levels[height], all_machines(machine));
-    let mut h = from;
-    while h < height {
-        x = x | levels[h];
-        h += 1;
-    }
-    x
-}
-
-// Job b, by index, is on a machine, of height low, and of the machines in watch it may run on those in want alone.
+// Job b, by index, is on a machine, of height low, and may run on the machines of mask.
 fn alike(
     places: &[u8],
     jobs: &[u8],
@@ -74,11 +59,10 @@ fn alike(
     b: usize,
     number: u8,
     low: u8,
-    watch: u32,
-    want: u32,
+    mask: u32,
 ) -> bool
     requires { ⌜ (n ≤ length (now places)) × (n ≤ length (now jobs)) × (n ≤ length (now masks)) ⌝ }
-    ensures { λ r. ⌜ r ≡ (ltb b n and eqb (getD (now (places .entry)) b 0) number and eqb (getD (now (jobs .entry)) b 0) low and eqb (bitAnd (getD (now (masks .entry)) b 0) watch) want) ⌝ }
+    ensures { λ r. ⌜ r ≡ (ltb b n and eqb (getD (now (places .entry)) b 0) number and eqb (getD (now (jobs .entry)) b 0) low and eqb (getD (now (masks .entry)) b 0) mask) ⌝ }
 {
     if b >= n {
         return false;
@@ -89,11 +73,21 @@ fn alike(
     if jobs[b] != low {
         return false;
     }
-    masks[b] & watch == want
+    masks[b] == mask
 }
 
-// What a run of hand-overs leaves: the first job after it, by index, the loads of giver and taker, and whether it is known to be still
-// the giver's turn.
+// It is still the turn of a machine of load x, after it gave a job to one that has load y then.
+fn lasts(x: u32, limit: u32, y: u32, most: u32) -> bool
+    ensures { λ r. ⌜ (r ≡ true → (limit < x) × (y ≤ most)) ⌝ }
+{
+    if x <= limit {
+        return false;
+    }
+    y <= most
+}
+
+// What a run of hand-overs leaves: the first job after it, by index, the loads of giver and taker, and whether it is still the giver's
+// turn.
 struct Handed {
     next: usize,
     left: u32,
@@ -101,8 +95,8 @@ struct Handed {
     stays: bool,
 }
 
-// Machine i hands over the job first and those after it that stand just so and go where it goes, while it is its turn: to machine j,
-// where they get height g. All are by index. The loads are left to the caller.
+// Machine i hands over job b and those after it that stand where b stands and may run on the same machines, while it is its turn. They
+// go to machine j and get height g. All are by index. The loads are left to the caller.
 fn hand_alike(
     places: &mut [u8],
     jobs: &mut [u8],
@@ -115,34 +109,34 @@ fn hand_alike(
     low: u8,
     j: usize,
     g: u8,
-    watch: u32,
-    want: u32,
+    mask: u32,
     most: u32,
     first: usize,
 ) -> Handed
     requires { ⌜ ((I : Instance) × (a : ℕ) × (m : ℕ) × (machines : List ℕ) × (levels : List ℕ) × (lifts : ℕ) × (pushes : ℕ)
-        × Aiming I a limit m n (now minutes) (now masks) i low j g watch want most first (arrays machines (now jobs) (now places) (now loads) levels lifts pushes)) ⌝ }
+        × Aiming I a limit m n (now minutes) (now masks) i low j g mask most first (arrays machines (now jobs) (now places) (now loads) levels lifts pushes)) ⌝ }
     requires { ⌜ (n ≤ length (now minutes)) × (n ≤ length (now masks)) × (n ≤ length (now places)) × (n ≤ length (now jobs)) ⌝ }
     ensures { λ r. ⌜ ((I : Instance) (a m : ℕ) (machines levels : List ℕ) (lifts pushes : ℕ)
-        → Aiming I a limit m n (now (minutes .entry)) (now (masks .entry)) i low j g watch want most first (arrays machines (now (jobs .entry)) (now (places .entry)) (now (loads .entry)) levels lifts pushes)
+        → Aiming I a limit m n (now (minutes .entry)) (now (masks .entry)) i low j g mask most first (arrays machines (now (jobs .entry)) (now (places .entry)) (now (loads .entry)) levels lifts pushes)
         → Onward I a i (r .next) (arrays machines (now (jobs .entry)) (now (places .entry)) (now (loads .entry)) levels lifts pushes)
         (after machines (now (jobs .exit)) (now (places .exit)) (now (loads .entry)) levels lifts pushes i j low g first (r .next) (r .left) (r .load))
         (r .stays)) ⌝ }
-    ensures { λ r. ⌜ (first < r .next) × (r .next ≤ n) ⌝ }
+    ensures { λ r. ⌜ (first < r .next) × (r .next ≤ n)
+        × Ranged (now (places .entry)) (now (jobs .entry)) (now (places .exit)) (now (jobs .exit)) i low j g first (r .next) ⌝ }
 {
     let number = (i + 1) as u8;
     let to = (j + 1) as u8;
     let mut b = first;
     let mut x = loads[i];
     let mut y = loads[j];
-    loop {
+    while alike(places, jobs, masks, n, b, number, low, mask) {
         let w = weigh(minutes[b], i, j);
         x -= w;
         y += w;
         places[b] = to;
         jobs[b] = g;
         b += 1;
-        if x <= limit {
+        if !lasts(x, limit, y, most) {
             return Handed {
                 next: b,
                 left: x,
@@ -150,22 +144,12 @@ fn hand_alike(
                 stays: false,
             };
         }
-        if most < y {
-            return Handed {
-                next: b,
-                left: x,
-                load: y,
-                stays: false,
-            };
-        }
-        if !alike(places, jobs, masks, n, b, number, low, watch, want) {
-            return Handed {
-                next: b,
-                left: x,
-                load: y,
-                stays: true,
-            };
-        }
+    }
+    Handed {
+        next: b,
+        left: x,
+        load: y,
+        stays: true,
     }
 }
 
@@ -179,10 +163,12 @@ fn below(h: u8) -> usize
     (h - 1) as usize
 }
 
-// Counts after a run of hand-overs, the first job after it, by index, and whether it is known to be still the giver's turn.
+// Counts after a run of hand-overs, the machine that took the jobs and the first job after them, by index, and whether it is still
+// the giver's turn.
 struct Gave {
     lifts: u32,
     pushes: u32,
+    to: usize,
     next: usize,
     stays: bool,
 }
@@ -211,18 +197,15 @@ fn give(
         (arrays (now (machines .entry)) (now (jobs .entry)) (now (places .entry)) (now (loads .entry)) (now (levels .entry)) lifts pushes)
         (arrays (now (machines .entry)) (now (jobs .exit)) (now (places .exit)) (now (loads .exit)) (now (levels .entry)) (r .lifts) (r .pushes))
         (r .stays) ⌝ }
-    ensures { λ r. ⌜ (b < r .next) × (r .next ≤ n) × (pushes < r .pushes) × (length (now (loads .exit)) ≡ length (now (loads .entry))) ⌝ }
+    ensures { λ r. ⌜ (b < r .next) × (r .next ≤ n) × (pushes < r .pushes) × (length (now (loads .exit)) ≡ length (now (loads .entry)))
+        × Moves (now (machines .entry)) (now (places .entry)) (now (jobs .entry)) (now (places .exit)) (now (jobs .exit)) i (r .to) b (r .next) ⌝ }
 {
     let low = jobs[b];
-    let from = below(low);
-    let found = least_for(masks[b], levels, from);
-    let machine = found.machine;
-    let height = found.height;
-    let j = machine - 1;
-    let g = (height + 1) as u8;
+    let mask = masks[b];
+    let found = least_for(mask, levels, below(low));
+    let j = found.machine - 1;
+    let g = (found.height + 1) as u8;
     let top = (2 * m) as u8;
-    let watch = ahead(levels, from, machine, height);
-    let want = with(0, machine);
     let most = most_on(loads[j], machines[j], a, limit, top, i, j);
     let r = hand_alike(
         places,
@@ -236,8 +219,7 @@ fn give(
         low,
         j,
         g,
-        watch,
-        want,
+        mask,
         most,
         b,
     );
@@ -248,23 +230,26 @@ fn give(
     Gave {
         lifts: lifts + rise(low, g) * count,
         pushes: pushes + 2 * count,
+        to: j,
         next,
         stays: r.stays,
     }
 }
 
-// Counts after a machine's turn, and whether another's turn, or the end, may have come.
+// Counts after a machine's turn, and whether another's turn, or the end, has come.
 struct Turned {
     lifts: u32,
     pushes: u32,
     stopped: bool,
 }
 
-// Machine i, by index, hands over the jobs that stand just below it, lowest first, as long as it is known to be its turn.
+// Machine i, by index, hands over the jobs that stand just below it, lowest first, as long as it is its turn.
 fn hand_over(
     places: &mut [u8],
     jobs: &mut [u8],
     loads: &mut [u32],
+    below: &mut [u64],
+    above: &mut [u64],
     machines: &[u8],
     levels: &[u32],
     minutes: &[u16],
@@ -278,20 +263,20 @@ fn hand_over(
     pushes: u32,
 ) -> Turned
     requires { ⌜ ((I : Instance) × Passing I a limit m n (now minutes) (now masks) i (arrays (now machines) (now jobs) (now places) (now loads) (now levels) lifts pushes)) ⌝ }
-    requires { ⌜ (n ≤ length (now minutes)) × (n ≤ length (now masks)) × (n ≤ length (now places)) × (n ≤ length (now jobs)) × (length (now machines) ≡ 24) ⌝ }
+    requires { ⌜ (n ≤ length (now minutes)) × (n ≤ length (now masks)) × (n ≤ length (now places)) × (n ≤ length (now jobs)) × (length (now machines) ≡ 24)
+        × (n ≤ 200) × (i < 24) × ((level : List ℕ) × Near (now below) level (now above) (now machines) (now jobs) (now places) n) ⌝ }
     ensures { λ r. ⌜ Goes a limit m n (now (minutes .entry)) (now (masks .entry)) i
         (arrays (now (machines .entry)) (now (jobs .entry)) (now (places .entry)) (now (loads .entry)) (now (levels .entry)) lifts pushes)
         (arrays (now (machines .entry)) (now (jobs .exit)) (now (places .exit)) (now (loads .exit)) (now (levels .entry)) (r .lifts) (r .pushes))
         (r .stopped) ⌝ }
-    ensures { λ r. ⌜ (r .stopped ≡ true → pushes < r .pushes) ⌝ }
+    ensures { λ r. ⌜ (r .stopped ≡ true → pushes < r .pushes)
+        × ((level : List ℕ) → Near (now (below .entry)) level (now (above .entry)) (now (machines .entry)) (now (jobs .entry)) (now (places .entry)) n
+        → Near (now (below .exit)) level (now (above .exit)) (now (machines .entry)) (now (jobs .exit)) (now (places .exit)) n) ⌝ }
 {
-    let h = machines[i];
-    let number = (i + 1) as u8;
-    let mut from = 0;
     let mut l = lifts;
     let mut p = pushes;
     loop {
-        let b = next_off(places, jobs, n, number, h, from);
+        let b = first_in(below, i);
         if b == 0 {
             return Turned {
                 lifts: l,
@@ -316,6 +301,8 @@ fn hand_over(
             l,
             p,
         );
+        take_out(below, i, b - 1, g.next);
+        put_in(above, g.to, b - 1, g.next);
         l = g.lifts;
         p = g.pushes;
         if !g.stays {
@@ -325,23 +312,129 @@ fn hand_over(
                 stopped: true,
             };
         }
-        from = g.next;
     }
 }
 
-// The state, and that nothing acts.
-fn rested(t: State) -> State
-    ensures { λ r. ⌜ r ≡ restOf t ⌝ }
+// A machine's height after a lift from h: by one where some job stands level with it, by two otherwise.
+fn risen(h: u8, some: bool) -> u8
+    requires { ⌜ h < 254 ⌝ }
+    ensures { λ r. ⌜ r ≡ pick some h (suc h) + 1 ⌝ }
 {
-    let mut s = t;
-    s.resting = true;
-    s
+    if some { h + 1 } else { h + 2 }
 }
 
-// One step of a trial: the lowest machine that may act hands over the jobs just below it, while it is its turn, and is lifted when
-// there is none left. Where nothing acts the state rests.
+// Whether some job stands level with machine i, by index, on which none stands below it. It is lifted to just above the lowest jobs on it.
+fn lift_rows(below: &mut [u64], level: &mut [u64], above: &mut [u64], i: usize) -> bool
+    requires { ⌜ (i < 24) × (length (now below) ≡ 96) × (length (now level) ≡ 96) × (length (now above) ≡ 96) ⌝ }
+    ensures { λ r. ⌜ Rises (now (below .entry)) (now (level .entry)) (now (above .entry)) (now (below .exit)) (now (level .exit)) (now (above .exit)) i r ⌝ }
+{
+    let some = some_in(level, i);
+    if some {
+        copy_row(below, level, i);
+        copy_row(level, above, i);
+        clear_row(above, i);
+        return true;
+    }
+    copy_row(below, above, i);
+    clear_row(above, i);
+    false
+}
+
+// Counts after a turn, and whether nothing acts.
+struct Took {
+    lifts: u32,
+    pushes: u32,
+    resting: bool,
+}
+
+// The turn of the lowest machine that may act: it hands over the jobs just below it, while it is its turn, and is lifted when there is
+// none left.
+fn turn(
+    machines: &mut [u8],
+    jobs: &mut [u8],
+    places: &mut [u8],
+    loads: &mut [u32],
+    levels: &mut [u32],
+    below: &mut [u64],
+    level: &mut [u64],
+    above: &mut [u64],
+    minutes: &[u16],
+    masks: &[u32],
+    m: usize,
+    n: usize,
+    a: u32,
+    limit: u32,
+    lifts: u32,
+    pushes: u32,
+) -> Took
+    requires { ⌜ ((I : Instance) × Stepping I a limit m n (now minutes) (now masks) (arrays (now machines) (now jobs) (now places) (now loads) (now levels) lifts pushes)) ⌝ }
+    requires { ⌜ (n ≤ length (now minutes)) × (n ≤ length (now masks)) × Wide (now machines) (now jobs) (now places) (now loads) (now levels)
+        × Near (now below) (now level) (now above) (now machines) (now jobs) (now places) n ⌝ }
+    ensures { λ r. ⌜ Steps a limit m n (now (minutes .entry)) (now (masks .entry))
+        (arrays (now (machines .entry)) (now (jobs .entry)) (now (places .entry)) (now (loads .entry)) (now (levels .entry)) lifts pushes)
+        (stateWith (now (machines .exit)) (now (jobs .exit)) (now (places .exit)) (now (loads .exit)) (now (levels .exit)) (r .lifts) (r .pushes) (r .resting)) ⌝ }
+    ensures { λ r. ⌜ (r .resting ≡ false → lifts + pushes < r .lifts + r .pushes)
+        × Wide (now (machines .exit)) (now (jobs .exit)) (now (places .exit)) (now (loads .exit)) (now (levels .exit))
+        × Near (now (below .exit)) (now (level .exit)) (now (above .exit)) (now (machines .exit)) (now (jobs .exit)) (now (places .exit)) n ⌝ }
+{
+    let top = (2 * m) as u8;
+    if !some_at_most(loads, m, a) {
+        return Took {
+            lifts,
+            pushes,
+            resting: true,
+        };
+    }
+    let i = first_able(loads, machines, m, limit, top);
+    if i == 0 {
+        return Took {
+            lifts,
+            pushes,
+            resting: true,
+        };
+    }
+    let r = hand_over(
+        places,
+        jobs,
+        loads,
+        below,
+        above,
+        machines,
+        levels,
+        minutes,
+        masks,
+        m,
+        n,
+        a,
+        limit,
+        i - 1,
+        lifts,
+        pushes,
+    );
+    if r.stopped {
+        return Took {
+            lifts: r.lifts,
+            pushes: r.pushes,
+            resting: false,
+        };
+    }
+    let h = machines[i - 1];
+    let g = risen(h, lift_rows(below, level, above, i - 1));
+    lift_level(levels, i, h as usize, g as usize);
+    machines[i - 1] = g;
+    Took {
+        lifts: r.lifts + 1,
+        pushes: r.pushes,
+        resting: false,
+    }
+}
+
+// One step of a trial: up to 64 turns, one after the other. Where nothing acts the state rests.
 pub fn step(
     t: State,
+    below: &mut [u64],
+    level: &mut [u64],
+    above: &mut [u64],
     minutes: &[u16],
     masks: &[u32],
     m: usize,
@@ -350,63 +443,53 @@ pub fn step(
     limit: u32,
 ) -> State
     requires { ⌜ ((I : Instance) × Stepping I a limit m n (now minutes) (now masks) t) ⌝ }
-    requires { ⌜ (n ≤ length (now minutes)) × (n ≤ length (now masks)) ⌝ }
+    requires { ⌜ (n ≤ length (now minutes)) × (n ≤ length (now masks)) × (t .resting ≡ false)
+        × Near (now below) (now level) (now above) (t .machines) (t .jobs) (t .places) n ⌝ }
     ensures { λ r. ⌜ Steps a limit m n (now (minutes .entry)) (now (masks .entry)) t r ⌝ }
-    ensures { λ r. ⌜ (r .resting ≡ false → t .lifts + t .pushes < r .lifts + r .pushes) ⌝ }
+    ensures { λ r. ⌜ (r .resting ≡ false → t .lifts + t .pushes < r .lifts + r .pushes)
+        × Near (now (below .exit)) (now (level .exit)) (now (above .exit)) (r .machines) (r .jobs) (r .places) n ⌝ }
 {
     let mut machines = t.machines;
     let mut jobs = t.jobs;
     let mut places = t.places;
     let mut loads = t.loads;
     let mut levels = t.levels;
-    let top = (2 * m) as u8;
-    if !some_at_most(&loads, m, a) {
-        return rested(t);
+    let mut lifts = t.lifts;
+    let mut pushes = t.pushes;
+    let mut resting = false;
+    let mut left: usize = 64;
+    while left > 0 && !resting {
+        let r = turn(
+            &mut machines,
+            &mut jobs,
+            &mut places,
+            &mut loads,
+            &mut levels,
+            below,
+            level,
+            above,
+            minutes,
+            masks,
+            m,
+            n,
+            a,
+            limit,
+            lifts,
+            pushes,
+        );
+        lifts = r.lifts;
+        pushes = r.pushes;
+        resting = r.resting;
+        left -= 1;
     }
-    let i = first_able(&loads, &machines, m, limit, top);
-    if i == 0 {
-        return rested(t);
-    }
-    let r = hand_over(
-        &mut places,
-        &mut jobs,
-        &mut loads,
-        &machines,
-        &levels,
-        minutes,
-        masks,
-        m,
-        n,
-        a,
-        limit,
-        i - 1,
-        t.lifts,
-        t.pushes,
-    );
-    if r.stopped {
-        return State {
-            machines,
-            jobs,
-            places,
-            loads,
-            levels,
-            lifts: r.lifts,
-            pushes: r.pushes,
-            resting: false,
-        };
-    }
-    let h = machines[i - 1];
-    let g = lowest_on(&places, &jobs, n, i as u8) + 1;
-    lift_level(&mut levels, i, h as usize, g as usize);
-    machines[i - 1] = g;
     State {
         machines,
         jobs,
         places,
         loads,
         levels,
-        lifts: r.lifts + 1,
-        pushes: r.pushes,
-        resting: false,
+        lifts,
+        pushes,
+        resting,
     }
 }

@@ -2,17 +2,19 @@
 ghost use mathlib.Core.Path.{_≡_};
 ghost use mathlib.Core.Bool.{Bool, true, false};
 ghost use Prim.Native.Nat.{ℕ, _+_, _≤_, _<_};
-ghost use lib.ListN.{length, take};
+ghost use lib.ListN.{length, take, getD};
 ghost use lib.Dec.{leb};
 ghost use Rattle.rules.specs.Instance.{Instance};
 ghost use Rattle.arrays.specs.Sets.{SetOf};
 ghost use Rattle.trials.specs.Track.{Stepping, Ends};
+ghost use Rattle.trials.specs.Near.{Entered, Flat};
 ghost use Rattle.trials.specs.Attempt.{Fresh, Standing, Tries};
 ghost use Rattle.rules.specs.Load.{longest};
 use crate::State;
 use crate::group::all_machines;
 use crate::group::closure_of;
 use crate::step::step;
+use arrays::rows::put_in;
 use arrays::scan::some_at_most;
 use arrays::setup::first_over;
 
@@ -45,15 +47,45 @@ fn begin(places: [u8; 200], loads: [u32; 24], m: usize, full: u32) -> State
     }
 }
 
+// The jobs on each machine, as rows.
+fn rows_of(places: &[u8], n: usize) -> [u64; 96]
+    requires { ⌜ (n ≤ 200) × (n ≤ length (now places)) × ((b : ℕ) → b < n → (0 < getD (now places) b 0) × (getD (now places) b 0 ≤ 24)) ⌝ }
+    ensures { λ r. ⌜ Entered (now (places .entry)) n r ⌝ }
+{
+    let mut rows = [0u64; 96];
+    let mut b: usize = 0;
+    while b < n {
+        let i = places[b] as usize - 1;
+        put_in(&mut rows, i, b, b + 1);
+        b += 1;
+    }
+    rows
+}
+
 // Steps until nothing acts.
 fn run(t: State, minutes: &[u16], masks: &[u32], m: usize, n: usize, a: u32, limit: u32) -> State
     requires { ⌜ ((I : Instance) × Stepping I a limit m n (now minutes) (now masks) t) ⌝ }
-    requires { ⌜ (n ≤ length (now minutes)) × (n ≤ length (now masks)) × (t .resting ≡ false) ⌝ }
+    requires { ⌜ (n ≤ length (now minutes)) × (n ≤ length (now masks)) × (t .resting ≡ false) × Flat t ⌝ }
     ensures { λ r. ⌜ Ends a limit m n (now (minutes .entry)) (now (masks .entry)) t r ⌝ }
 {
+    let first = t.places;
+    let mut below = [0u64; 96];
+    let mut level = rows_of(&first, n);
+    let mut above = [0u64; 96];
     let mut s = t;
     while !s.resting {
-        s = step(s, minutes, masks, m, n, a, limit);
+        s = step(
+            s,
+            &mut below,
+            &mut level,
+            &mut above,
+            minutes,
+            masks,
+            m,
+            n,
+            a,
+            limit,
+        );
     }
     s
 }

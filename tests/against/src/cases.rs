@@ -333,6 +333,39 @@ pub fn reviews_and_trials(seed: u64, count: usize) -> Vec<Case> {
     (0..count).map(case).collect()
 }
 
+/// Calls of every kind in any order on one sheet, good and bad arguments
+/// mixed, each on what the one before left.
+pub fn runs(seed: u64, count: usize) -> Vec<Case> {
+    let mut rng = Rng::new(seed);
+    let case = |_| {
+        let shape = match rng.below(16) {
+            0 => CROWDED,
+            1 => gen::LARGE,
+            _ => shape(&mut rng),
+        };
+        let draft = gen::draft(&mut rng, shape);
+        let mut sheet = draft.sheet();
+        let mut calls = Vec::new();
+        for _ in 0..rng.within(1, 16) {
+            let call = match rng.below(8) {
+                0 => Call::Review,
+                1 => Call::Trial {
+                    level: rng.below(sheet.total() as u64 + 3),
+                },
+                2 | 3 => Call::Plan,
+                _ => edit(&mut rng, &sheet),
+            };
+            apply(&mut sheet, &call);
+            calls.push(call);
+        }
+        Case {
+            sheet: draft.render(),
+            calls,
+        }
+    };
+    (0..count).map(case).collect()
+}
+
 /// Trials at levels of four kinds, `times` of each.
 fn levels(rng: &mut Rng, sheet: &Sheet, times: usize, calls: &mut Vec<Call>) {
     let total = sheet.total() as u64;

@@ -14,7 +14,7 @@ use std::sync::atomic::{AtomicUsize, Ordering};
 use std::sync::Mutex;
 use std::thread;
 
-use second::{Answer, Call, Review, Sheet, Trial, Verdict};
+use second::{Answer, Call, Plan, Review, Sheet, Trial, Verdict};
 
 /// A sheet's bytes, good or bad, and calls on the sheet.
 #[derive(Clone, Debug)]
@@ -77,7 +77,10 @@ impl Case {
                     seen.trial(&trial, sheet.instruments());
                     put_trial(&mut text, &trial);
                 }
-                other => panic!("{other:?}: the program does not know this call yet"),
+                Answer::Plan(plan) => {
+                    seen.plan(&plan);
+                    put_plan(&mut text, &plan);
+                }
             }
             text.push('\n');
         }
@@ -135,6 +138,15 @@ fn put_trial(text: &mut String, trial: &Trial) {
     }
 }
 
+fn put_plan(text: &mut String, plan: &Plan) {
+    write!(text, " {} {}", plan.makespan, plan.lower_bound).unwrap();
+    write!(text, " {} {} {}", plan.level, plan.lifts, plan.pushes).unwrap();
+    write!(text, " {}", plan.moves).unwrap();
+    for member in plan.group.iter().flat_map(|group| group.numbers()) {
+        write!(text, " {member}").unwrap();
+    }
+}
+
 fn put_content(text: &mut String, sheet: &Sheet) {
     let batches = sheet.batches();
     writeln!(text, "S {} {}", sheet.instruments(), batches.len()).unwrap();
@@ -163,6 +175,11 @@ pub struct Seen {
     pub improving: usize,
     pub settled: usize,
     pub trials: Trials,
+    /// Plannings with a group and without one, and those that settling moved
+    /// batches in.
+    pub grouped: usize,
+    pub ungrouped: usize,
+    pub moved: usize,
 }
 
 /// What trials came to.
@@ -231,6 +248,14 @@ impl Seen {
         }
     }
 
+    fn plan(&mut self, plan: &Plan) {
+        match plan.group {
+            Some(_) => self.grouped += 1,
+            None => self.ungrouped += 1,
+        }
+        self.moved += (plan.moves > 0) as usize;
+    }
+
     fn trial(&mut self, trial: &Trial, m: usize) {
         let steps = trial.lifts + trial.pushes;
         let long = (steps > 100_000) as usize;
@@ -258,6 +283,9 @@ impl Seen {
         self.improving += other.improving;
         self.settled += other.settled;
         self.trials.add(&other.trials);
+        self.grouped += other.grouped;
+        self.ungrouped += other.ungrouped;
+        self.moved += other.moved;
         for number in 0..10 {
             self.refusals[number] += other.refusals[number];
             let (ours, theirs) = (&mut self.lines[number], &other.lines[number]);

@@ -1,4 +1,4 @@
-//! Reviews and trials: the proved code beside the second planner.
+//! Reviews, trials, plannings and runs: the proved code beside the second planner.
 
 use against::{cases, compare, compare_runs, compare_with, Case};
 use second::Call;
@@ -23,6 +23,8 @@ fn known_lines() {
             trial(60),
             trial(61),
             trial(u32::MAX as u64),
+            Call::Plan,
+            Call::Review,
         ],
     };
     let mut stream = Vec::new();
@@ -36,8 +38,10 @@ fn known_lines() {
         "0 1 0 0 1 1 1",
         "8",
         "8",
+        "0 30 30 0 2 2 0",
+        "0 30 0 30 30",
     ];
-    assert_eq!(lines[..6], expected);
+    assert_eq!(lines[..8], expected);
     compare(&[case]);
 }
 
@@ -83,4 +87,19 @@ fn hard_sheets() {
     assert!(trials.long_passes + trials.long_failures >= 1_000);
     assert!(trials.passed >= 1_000 && trials.failed >= 1_000);
     assert!(trials.several >= 1_000);
+}
+
+#[test]
+fn runs() {
+    let seen = compare_runs(200, |run| cases::runs(run, 100));
+    println!("{}", seen.summary());
+    assert_eq!((seen.cases, seen.sheets), (20_000, 20_000));
+    for kind in 1..=7 {
+        assert!(seen.calls[kind][0] >= 5_000, "calls of kind {kind}");
+    }
+    for (kind, refusal) in [(1, 3), (1, 4), (2, 6), (3, 4), (3, 6), (4, 5), (4, 6), (6, 8)] {
+        assert!(seen.calls[kind][refusal] >= 100, "{refusal} of kind {kind}");
+    }
+    assert!(seen.grouped >= 10_000 && seen.ungrouped >= 1_000);
+    assert!(seen.moved >= 5_000);
 }

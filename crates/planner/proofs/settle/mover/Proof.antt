@@ -1,76 +1,91 @@
--- The invariant: the job so far is the longest of those passed that improve.
+-- The invariant: the job so far is the longest of those passed that improve, and the bounds are bounds. Jobs that stay change nothing.
 -- Assumes nothing.
-use Prim.Native.Nat.{ℕ, suc, _≤_, _-_}
+use Prim.Native.Nat.{ℕ, _+_, _≤_, _-_}
 use mathlib.Core.Path.{_≡_, refl, ap, _∙_}
-use mathlib.Core.Bool.{Bool}
-use native.Mathlib.Numerals.{add-one}
 use native.Mathlib.Omega.{arith}
-use Rattle.rules.specs.Fold.{at, greater, greatestTo}
-use Rattle.planner.specs.Settling.{gains}
-use Rattle.planner.proofs.Gains.{greatest-le}
+use lib.ListN.{length}
+use lib.Dec.{eqb}
+use borrow.Author.Tests.{eqb-true, not-false}
+use Rattle.rules.specs.Fold.{greatestTo}
+use Rattle.planner.specs.Settling.{longest, Bounds}
+use Rattle.planner.proofs.Lows.{longest-le, longest-still}
 use Rattle.planner.proofs.Placing.{mover-is, known-long, known-place}
 use borrow.Author.Needs.{needs}
 use Rattle.planner.proofs.settle.mover.Statement.{statement}
 use Rattle.planner.proofs.settle.mover.Tie as tie
 
 abbrev Inv-loop : tie.InvT-loop
-Inv-loop loads places minutes masks n m least found₀ b₀ found b = (b ≤ n) × (found ≡ greatestTo b (λ j. gains loads (at masks j) (at places j) (at minutes j) m) (λ j. at minutes j))
+Inv-loop loads places minutes masks lows₀ n m found₀ b₀ lows found b =
+    (b ≤ n) × (found ≡ longest loads places minutes masks m b) × Bounds m n masks loads lows × (length lows ≡ length lows₀)
 
 abbrev μ-loop : tie.MeasureT-loop
-μ-loop loads places minutes masks n m least found₀ b₀ found b = n - b
-
-least-load-requires : tie.Need-least-load-requires Inv-loop μ-loop
-least-load-requires c κs = search needs
+μ-loop loads places minutes masks lows₀ n m found₀ b₀ lows found b = n - b
 
 loop-holds : tie.Need-loop-holds Inv-loop μ-loop
-unfolding greatestTo
-loop-holds c = (omega arith, refl)
+unfolding longest greatestTo
+loop-holds c = (omega arith, refl, c .before .before .before .before .before .pre .1, refl)
 
-mul-longer : tie.Need-mul-longer Inv-loop μ-loop
-mul-longer c = search needs
+end-of-requires : tie.Need-end-of-requires Inv-loop μ-loop
+end-of-requires c κs = (omega (arith, c .loop-test .taken), c .before .before .before .before .before .before .before .pre .0 .said .reads .most)
 
-shared-slice-read-longer : tie.Need-shared-slice-read-longer Inv-loop μ-loop
-shared-slice-read-longer c = search needs
+sub-if1 : tie.Need-sub-if1 Inv-loop μ-loop
+sub-if1 c = omega (arith, c .end-of .ensures .0)
 
-shared-slice-read-longer-2 : tie.Need-shared-slice-read-longer-2 Inv-loop μ-loop
-shared-slice-read-longer-2 c = omega (arith, known-long (c .before .before .before .before .before .before .before .before .before .pre))
+wanted-requires : tie.Need-wanted-requires Inv-loop μ-loop
+wanted-requires c κs =
+    let st = c .before .before .before .before .before .before .before .before .before .before in
+    let a = st .args in
+    let f : c .before .before .before .before .loop .found ≤ c .before .before .before .before .loop .b = rw (c .before .before .before .before .loop .inv .1) (longest-le (a .loads .now) (a .places .now) (a .minutes .now) (a .masks .now) (a .m) (c .before .before .before .before .loop .b)) in
+    omega (arith, f, c .before .before .before .before .loop .inv .0, st .pre .0 .said .timed)
 
-longer-requires : tie.Need-longer-requires Inv-loop μ-loop
-longer-requires c κs =
-    let at-loop = c .before .before .before in
-    let st = at-loop .before .before .before .before .before .before in
-    let b = at-loop .loop .b in
-    let z = known-place (st .pre) b (omega arith) in
-    let f : at-loop .loop .found ≤ b = rw (at-loop .loop .inv .1) (greatest-le b _ _) in
-    ((st .pre .said .reads .few, st .pre .placing .long, z .0, z .1, at-loop .before .least-load .ensures), (f, omega arith))
-
-add-b : tie.Need-add-b Inv-loop μ-loop
-add-b c = search needs
-
-loop-less : tie.Need-loop-less Inv-loop μ-loop
-loop-less c = search needs
-
-loop-again : tie.Need-loop-again Inv-loop μ-loop
-unfolding greatestTo
-loop-again c =
-    let at-loop = c .before .before .before .before in
-    let a = at-loop .before .before .before .before .before .before .args in
-    let b = at-loop .loop .b in
-    let p : ℕ → Bool = λ j. gains (a .loads .now) (at (a .masks .now) j) (at (a .places .now) j) (at (a .minutes .now) j) (a .m) in
-    let f : ℕ → ℕ = λ j. at (a .minutes .now) j in (
-      omega arith,
-      rw (add-one b)
-          (c .longer .ensures
-          ∙ ap (λ (x : ℕ). greater f x (p (suc b)) (suc b)) (at-loop .loop .inv .1)),
+may-moves-requires : tie.Need-may-moves-requires Inv-loop μ-loop
+may-moves-requires c κs =
+    let st = c .before .before .before .before .before .before .before .before .before .before .before in
+    let k = st .pre .0 in
+    let u : c .before .before .before .before .before .loop .b + 8 ≤ st .args .n = omega (arith, c .before .before .before .end-of .ensures .1, c .before .before .if1 .left) in (
+      omega (arith, k .said .reads .most),
+      omega (arith, known-long k),
+      omega (arith, k .said .timed),
+      omega (arith, c .before .before .before .before .before .loop .inv .2 .long),
+      λ b l. known-place k b (omega arith),
     )
 
+longest-to-requires : tie.Need-longest-to-requires Inv-loop μ-loop
+longest-to-requires c κs =
+    let st = c .before .before .before .before .before .before .before .before .before .before in
+    let e = c .before .before .end-of .ensures in
+    ((st .pre .0, c .before .before .before .before .loop .inv .2), (omega (arith, e .0), e .1, c .before .before .before .before .loop .inv .1))
+
+loop-less : tie.Need-loop-less Inv-loop μ-loop
+loop-less c = omega (arith, c .before .before .before .before .before .end-of .ensures .0, c .before .before .before .before .before .end-of .ensures .1)
+
+loop-again : tie.Need-loop-again Inv-loop μ-loop
+loop-again c =
+    let made = c .before .before .longest-to .ensures in
+    (c .before .before .before .before .before .end-of .ensures .1, made .0, made .1, search needs)
+
+loop-less-2 : tie.Need-loop-less-2 Inv-loop μ-loop
+loop-less-2 c = omega (arith, c .before .before .before .before .before .end-of .ensures .0, c .before .before .before .before .before .end-of .ensures .1)
+
+loop-again-2 : tie.Need-loop-again-2 Inv-loop μ-loop
+loop-again-2 c =
+    let inv = c .before .before .before .before .before .before .before .loop .inv in
+    let e = c .before .before .before .before .before .end-of .ensures in (
+      e .1,
+      longest-still (c .before .before .before .before .before .before .before .loop .found) (inv .2) (c .before .may-moves .ensures (eqb-true (c .before .may-moves .result) 0 (not-false (eqb (c .before .may-moves .result) 0) (c .if2 .left)))) (c .before .before .wanted .ensures) (omega (arith, e .1, c .before .before .before .before .if1 .left)) (c .before .before .before .before .before .end-of .result) (omega (arith, e .0)) (e .2) (inv .1),
+      inv .2,
+      inv .3,
+    )
+
+same-length : tie.Need-same-length Inv-loop μ-loop
+same-length c = c .before .loop .inv .3
+
 returns : tie.Need-returns Inv-loop μ-loop
+unfolding longest
 returns c =
     let a = c .before .before .before .before .before .before .before .args in
-    let p : ℕ → Bool = λ j. gains (a .loads .now) (at (a .masks .now) j) (at (a .places .now) j) (at (a .minutes .now) j) (a .m) in
-    let f : ℕ → ℕ = λ j. at (a .minutes .now) j in
     let e : c .before .loop .b ≡ a .n = omega arith in
-    λ I r q. c .before .loop .inv .1 ∙ ap (λ (k : ℕ). greatestTo k p f) e ∙ mover-is r q
+    (λ I r q. c .before .loop .inv .1 ∙ ap (λ (k : ℕ). longest (a .loads .now) (a .places .now) (a .minutes .now) (a .masks .now) (a .m) k) e ∙ mover-is r q, c .before .loop .inv .2)
 
 pub mover-spec : {M : Type 1} → statement M
 mover-spec =
@@ -78,13 +93,15 @@ mover-spec =
     (tie.spec
     Inv-loop
     μ-loop
-    least-load-requires
     loop-holds
-    mul-longer
-    shared-slice-read-longer
-    shared-slice-read-longer-2
-    longer-requires
-    add-b
+    end-of-requires
+    sub-if1
+    wanted-requires
+    may-moves-requires
+    longest-to-requires
     loop-less
     loop-again
+    loop-less-2
+    loop-again-2
+    same-length
     returns)

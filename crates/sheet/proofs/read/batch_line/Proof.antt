@@ -37,10 +37,10 @@ at2 c = start c .args .at + 6
 
 first : (c : tie.After-known-told) →
     numberAt (drop (start c .args .at) (text (start c))) ≡ gives (minutes-of c) (drop (at2 c) (text (start c)))
-first c = number-there (text (start c)) (start c .args .at) _ (c .before .before .before .field-at .ensures) _ (c .before .t .given .1)
+first c = number-there (text (start c)) (start c .args .at) _ (c .before .before .before .long-field-at .ensures) _ (c .before .t .given .1)
 
 room : (c : tie.After-known-told) → at2 c ≤ length (text (start c))
-room c = number-room (text (start c)) (start c .args .at) _ (c .before .before .before .field-at .ensures) _ (c .before .t .given .1) (start c .pre .0)
+room c = number-room (text (start c)) (start c .args .at) _ (c .before .before .before .long-field-at .ensures) _ (c .before .t .given .1) (start c .pre .0)
 
 -- the length is good
 onward : (c : tie.Else2) → whole (start (c .before .before)) ≡
@@ -60,10 +60,10 @@ at3 c = at2 (c .before .before .before .before .before .before .before) + 6
 
 second : (c : tie.After-known-told2) → whole (start2 c) ≡
     fromCount (start2 c .args .m) (minutes-of (c .before .before .before .before .before .before .before)) (place-of c) (drop (at3 c) (text (start2 c)))
-second c = rw (onward (c .before .before .before .before .before), number-there (text (start2 c)) (at2 (c .before .before .before .before .before .before .before)) _ (c .before .before .before .field-at2 .ensures) _ (c .before .p .given .1))
+second c = rw (onward (c .before .before .before .before .before), number-there (text (start2 c)) (at2 (c .before .before .before .before .before .before .before)) _ (c .before .before .before .field-at .ensures) _ (c .before .p .given .1))
 
 room2 : (c : tie.After-known-told2) → at3 c ≤ length (text (start2 c))
-room2 c = number-room (text (start2 c)) (at2 (c .before .before .before .before .before .before .before)) _ (c .before .before .before .field-at2 .ensures) _ (c .before .p .given .1) (room (c .before .before .before .before .before .before .before))
+room2 c = number-room (text (start2 c)) (at2 (c .before .before .before .before .before .before .before)) _ (c .before .before .before .field-at .ensures) _ (c .before .p .given .1) (room (c .before .before .before .before .before .before .before))
 
 -- the count was read
 abbrev start3 : tie.After-known-told3 → tie.Start
@@ -75,22 +75,22 @@ count-of c = c .before .c .given .0 .0
 third : (c : tie.After-known-told3) → whole (start3 c) ≡
     orRefuse (leb 1 (count-of c) and leb (count-of c) (start3 c .args .m)) badList
     (lineList (start3 c .args .m) (minutes-of (c .before .before .before .before .before .before .before .before .before .before .before .before)) (place-of (c .before .before .before .before .before)) (count-of c) (drop (at3 (c .before .before .before .before .before) + 6) (text (start3 c))))
-third c = rw (second (c .before .before .before .before .before), number-there (text (start3 c)) (at3 (c .before .before .before .before .before)) _ (c .before .before .before .field-at3 .ensures) _ (c .before .c .given .1))
+third c = rw (second (c .before .before .before .before .before), number-there (text (start3 c)) (at3 (c .before .before .before .before .before)) _ (c .before .before .before .field-at2 .ensures) _ (c .before .c .given .1))
 
 room3 : (c : tie.After-known-told3) → at3 (c .before .before .before .before .before) + 6 ≤ length (text (start3 c))
-room3 c = number-room (text (start3 c)) (at3 (c .before .before .before .before .before)) _ (c .before .before .before .field-at3 .ensures) _ (c .before .c .given .1) (room2 (c .before .before .before .before .before))
+room3 c = number-room (text (start3 c)) (at3 (c .before .before .before .before .before)) _ (c .before .before .before .field-at2 .ensures) _ (c .before .c .given .1) (room2 (c .before .before .before .before .before))
 
-sub-field-at : tie.Need-sub-field-at
-sub-field-at c = search needs
+sub-long-field-at : tie.Need-sub-long-field-at
+sub-long-field-at c = search needs
 
-part-field-at-start : tie.Need-part-field-at-start
-part-field-at-start c = search needs
+part-long-field-at-start : tie.Need-part-long-field-at-start
+part-long-field-at-start c = search needs
 
-part-field-at-end : tie.Need-part-field-at-end
-part-field-at-end c = search needs
+part-long-field-at-end : tie.Need-part-long-field-at-end
+part-long-field-at-end c = search needs
 
-field-at-requires : tie.Need-field-at-requires
-field-at-requires c κs = search needs
+long-field-at-requires : tie.Need-long-field-at-requires
+long-field-at-requires c κs = search needs
 
 enum-known-t : tie.Need-enum-known-t
 enum-known-t c = search needs
@@ -104,7 +104,7 @@ refused-requires c κs = search needs
 returns : tie.Need-returns
 unfolding batchLine
 returns c =
-    rw (number-missing (text (c .before .before .before .before .before .before)) (c .before .before .before .before .before .before .args .at) _ (c .before .before .before .field-at .ensures) (c .before .enum-told .given .1)) (c .refused .ensures)
+    rw (number-missing (text (c .before .before .before .before .before .before)) (c .before .before .before .before .before .before .args .at) _ (c .before .before .before .long-field-at .ensures) (c .before .enum-told .given .1)) (c .refused .ensures)
 
 refused-requires-2 : tie.Need-refused-requires-2
 refused-requires-2 c κs = search needs
@@ -126,17 +126,17 @@ returns-3 c = rw (first (c .before .before .before), above 1 1440 _ (c .before .
 add-second : tie.Need-add-second
 add-second c = search needs
 
-sub-field-at-2 : tie.Need-sub-field-at-2
-sub-field-at-2 c = room (c .before .before)
+sub-field-at : tie.Need-sub-field-at
+sub-field-at c = room (c .before .before)
 
-part-field-at-start-2 : tie.Need-part-field-at-start-2
-part-field-at-start-2 c = room (c .before .before)
+part-field-at-start : tie.Need-part-field-at-start
+part-field-at-start c = room (c .before .before)
 
-part-field-at-end-2 : tie.Need-part-field-at-end-2
-part-field-at-end-2 c = search needs
+part-field-at-end : tie.Need-part-field-at-end
+part-field-at-end c = search needs
 
-field-at-requires-2 : tie.Need-field-at-requires-2
-field-at-requires-2 c κs = search needs
+field-at-requires : tie.Need-field-at-requires
+field-at-requires c κs = search needs
 
 enum-known-p : tie.Need-enum-known-p
 enum-known-p c = search needs
@@ -149,23 +149,23 @@ refused-requires-4 c κs = search needs
 
 returns-4 : tie.Need-returns-4
 returns-4 c =
-    rw (onward (c .before .before .before .before .before), number-missing (text (start (c .before .before .before .before .before .before .before))) (at2 (c .before .before .before .before .before .before .before)) _ (c .before .before .before .field-at2 .ensures) (c .before .enum-told2 .given .1))
+    rw (onward (c .before .before .before .before .before), number-missing (text (start (c .before .before .before .before .before .before .before))) (at2 (c .before .before .before .before .before .before .before)) _ (c .before .before .before .field-at .ensures) (c .before .enum-told2 .given .1))
     (c .refused4 .ensures)
 
 add-third : tie.Need-add-third
 add-third c = search needs
 
-sub-field-at-3 : tie.Need-sub-field-at-3
-sub-field-at-3 c = room2 c
+sub-field-at-2 : tie.Need-sub-field-at-2
+sub-field-at-2 c = room2 c
 
-part-field-at-start-3 : tie.Need-part-field-at-start-3
-part-field-at-start-3 c = room2 c
+part-field-at-start-2 : tie.Need-part-field-at-start-2
+part-field-at-start-2 c = room2 c
 
-part-field-at-end-3 : tie.Need-part-field-at-end-3
-part-field-at-end-3 c = search needs
+part-field-at-end-2 : tie.Need-part-field-at-end-2
+part-field-at-end-2 c = search needs
 
-field-at-requires-3 : tie.Need-field-at-requires-3
-field-at-requires-3 c κs = search needs
+field-at-requires-2 : tie.Need-field-at-requires-2
+field-at-requires-2 c κs = search needs
 
 enum-known-c : tie.Need-enum-known-c
 enum-known-c c = search needs
@@ -178,7 +178,7 @@ refused-requires-5 c κs = search needs
 
 returns-5 : tie.Need-returns-5
 returns-5 c =
-    rw (second (c .before .before .before .before .before), number-missing (text (start2 (c .before .before .before .before .before))) (at3 (c .before .before .before .before .before)) _ (c .before .before .before .field-at3 .ensures) (c .before .enum-told3 .given .1))
+    rw (second (c .before .before .before .before .before), number-missing (text (start2 (c .before .before .before .before .before))) (at3 (c .before .before .before .before .before)) _ (c .before .before .before .field-at2 .ensures) (c .before .enum-told3 .given .1))
     (c .refused5 .ensures)
 
 refused-requires-6 : tie.Need-refused-requires-6
@@ -215,10 +215,10 @@ pub batch-line-spec : {M : Type 1} → statement M
 batch-line-spec =
     tie.close
     (tie.spec
-    sub-field-at
-    part-field-at-start
-    part-field-at-end
-    field-at-requires
+    sub-long-field-at
+    part-long-field-at-start
+    part-long-field-at-end
+    long-field-at-requires
     enum-known-t
     enum-told
     refused-requires
@@ -229,19 +229,19 @@ batch-line-spec =
     refused-requires-3
     returns-3
     add-second
-    sub-field-at-2
-    part-field-at-start-2
-    part-field-at-end-2
-    field-at-requires-2
+    sub-field-at
+    part-field-at-start
+    part-field-at-end
+    field-at-requires
     enum-known-p
     enum-told-2
     refused-requires-4
     returns-4
     add-third
-    sub-field-at-3
-    part-field-at-start-3
-    part-field-at-end-3
-    field-at-requires-3
+    sub-field-at-2
+    part-field-at-start-2
+    part-field-at-end-2
+    field-at-requires-2
     enum-known-c
     enum-told-3
     refused-requires-5

@@ -1,21 +1,23 @@
 -- A run of hand-overs: the machine that the jobs go to is the one that the rules choose, and the arrays are changed as they say.
 -- Assumes nothing.
 use Prim.Native.Nat.{ℕ, suc, _+_, _-_, _*_, _≤_, _<_}
-use mathlib.Core.Path.{_≡_, refl, ap, subst}
+use mathlib.Core.Path.{_≡_, refl, ap, subst, _∙_}
 use mathlib.Core.List.{List}
 use native.Mathlib.Omega.{arith}
 use lib.ListN.{length, getD, length-set}
 use lib.Dec.{eqb}
 use borrow.Author.Needs.{needs}
-use Rattle.rules.specs.Fold.{pick}
+use native.Mathlib.Numerals.{add-one}
+use Rattle.rules.specs.Fold.{pick, at}
 use Rattle.rules.specs.Instance.{Instance}
 use Rattle.theory.proofs.Lifts.{lifts-bound}
 use Rattle.theory.proofs.Pushes.{pushes-bound}
 use Rattle.arrays.specs.Sets.{LowestIn}
 use Rattle.arrays.proofs.Levels.{levels-leveled}
-use Rattle.trials.specs.Track.{arrays, Giving, Aiming}
-use Rattle.trials.proofs.Giving.{job-in, giver-in, reaches, machine-found, lift-bound-small, push-bound-small}
-use Rattle.trials.proofs.Watch.{watched}
+use Rattle.trials.specs.Track.{arrays, after, Giving, Aiming, Onward}
+use Rattle.trials.specs.Near.{Ranged, Moves}
+use Rattle.trials.proofs.Alike.{next-of}
+use Rattle.trials.proofs.Giving.{height-is, job-in, giver-in, reaches, machine-found, lift-bound-small, push-bound-small}
 use Rattle.trials.proofs.step.give.Statement.{statement}
 use Rattle.trials.proofs.step.give.Tie as tie
 
@@ -44,7 +46,7 @@ start c = c .before .before .before .before .before .before .before .before .bef
 
 lowest : (c : tie.After-least-for)
     → LowestIn (getD (start c .args .masks .now) (start c .args .b) 0) (start c .args .levels .now) (getD (start c .args .jobs .now) (start c .args .b) 0 - 1) (c .least-for .result .machine) (c .least-for .result .height)
-lowest c = rw (c .before .before .below .ensures) at (c .least-for .ensures)
+lowest c = rw (c .before .below .ensures) at (c .least-for .ensures)
 
 found : (c : tie.After-least-for) → (0 < c .least-for .result .machine) × (c .least-for .result .machine ≤ start c .args .m)
 found c = machine-found (known (start c)) _ _ (lowest c)
@@ -66,22 +68,27 @@ aiming : (c : tie.After-most-on) (I : Instance)
     → Giving I (start (least c) .args .a) (start (least c) .args .limit) (start (least c) .args .m) (start (least c) .args .n) (start (least c) .args .minutes .now) (start (least c) .args .masks .now) (start (least c) .args .i) (start (least c) .args .b)
     (arrays (start (least c) .args .machines .now) (start (least c) .args .jobs .now) (start (least c) .args .places .now) (start (least c) .args .loads .now) (start (least c) .args .levels .now) (start (least c) .args .lifts) (start (least c) .args .pushes))
     → Aiming I (start (least c) .args .a) (start (least c) .args .limit) (start (least c) .args .m) (start (least c) .args .n) (start (least c) .args .minutes .now) (start (least c) .args .masks .now) (start (least c) .args .i)
-    (getD (start (least c) .args .jobs .now) (start (least c) .args .b) 0) (least c .least-for .result .machine - 1) (least c .least-for .result .height + 1)
-    (c .before .before .before .before .ahead .result) (c .before .before .before .with .result) (c .most-on .result) (start (least c) .args .b)
+    (getD (start (least c) .args .jobs .now) (start (least c) .args .b) 0) (least c .least-for .result .machine - 1) (least c .least-for .result .height + 1) (getD (start (least c) .args .masks .now) (start (least c) .args .b) 0)
+    (c .most-on .result) (start (least c) .args .b)
     (arrays (start (least c) .args .machines .now) (start (least c) .args .jobs .now) (start (least c) .args .places .now) (start (least c) .args .loads .now) (start (least c) .args .levels .now) (start (least c) .args .lifts) (start (least c) .args .pushes))
-aiming c I v = record {
-  giving = v;
-  stands = refl;
-  height = least c .least-for .result .height;
-  lowest = numbered (found (least c) .0) (lowest (least c));
-  alike = watched (start (least c) .args .levels .now) (getD (start (least c) .args .jobs .now) (start (least c) .args .b) 0 - 1) (least c .least-for .result .height)
-      (getD (start (least c) .args .masks .now) (start (least c) .args .b) 0) (c .before .before .before .before .ahead .result) (c .before .before .before .with .result)
-      (least c .least-for .result .machine) (lowest (least c)) (found (least c) .0) (omega (arith, found (least c), few (start (least c))))
-      (rw (least c .before .before .below .ensures) at (c .before .before .before .before .ahead .ensures)) (c .before .before .before .with .ensures);
-  lands = refl;
-  rests = c .most-on .ensures .0;
-  yields = c .most-on .ensures .1;
-}
+aiming c I v =
+    record {
+      giving = v;
+      stands = refl;
+      word = refl;
+      height = least c .least-for .result .height;
+      lowest = numbered (found (least c) .0) (lowest (least c));
+      lands = refl;
+      rests = c .most-on .ensures .0;
+      yields = c .most-on .ensures .1;
+    }
+
+-- the height of the machine that takes them
+stands-at : (c : tie.After-least-for) → c .least-for .result .height ≡ getD (start c .args .machines .now) (c .least-for .result .machine - 1) 0
+stands-at c =
+    let e : c .least-for .result .machine ≡ suc (c .least-for .result .machine - 1) = omega (arith, found c) in
+    height-is (known (start c)) (c .least-for .result .machine) (c .least-for .result .height) (lowest c)
+    ∙ ap (λ (x : ℕ). at (start c .args .machines .now) x) e
 
 -- ---- after the run
 
@@ -101,6 +108,17 @@ counts c =
       omega (arith, pushes-bound (inst (first c)) _ (o .tracks .counted .caps) (o .tracks .counted .pushes), push-bound-small (known (first c) .setup .reads)),
     )
 
+moves : (c : tie.After-hand-alike)
+    → Moves (first c .args .machines .now) (first c .args .places .now) (first c .args .jobs .now) (c .hand-alike .last .0) (c .hand-alike .last .1 .0) (first c .args .i) (least (most c) .least-for .result .machine - 1) (first c .args .b) (c .hand-alike .result .next)
+moves c = record {
+  low = getD (first c .args .jobs .now) (first c .args .b) 0;
+  ranged = subst
+      (λ (x : ℕ). Ranged (first c .args .places .now) (first c .args .jobs .now) (c .hand-alike .last .0) (c .hand-alike .last .1 .0) (first c .args .i) (getD (first c .args .jobs .now) (first c .args .b) 0) (least (most c) .least-for .result .machine - 1) x (first c .args .b) (c .hand-alike .result .next))
+      (add-one (least (most c) .least-for .result .height) ∙ ap suc (stands-at (least (most c)))) (c .hand-alike .ensures .1 .2);
+  giver = next-of (known (first c)) .below;
+  taker = taker (least (most c)) .0;
+}
+
 abbrev ran : tie.After-rise → tie.After-hand-alike
 ran c = c .before .before .before .before .before
 
@@ -111,42 +129,36 @@ raised c = ap (λ (r : ℕ). r * (ran c .hand-alike .result .next - first (ran c
 slice-read-low : tie.Need-slice-read-low
 slice-read-low c = omega (arith, job (c .before .before .before .before .before .before .before .before), (c .before .before .before .before .before .before .before .before) .pre .1 .3)
 
+mul-mask : tie.Need-mul-mask
+mul-mask c = omega (arith, job (c .before .before .before .before .before .before .before .before))
+
+shared-slice-read-mask : tie.Need-shared-slice-read-mask
+shared-slice-read-mask c = omega (arith, job (c .before .before .before .before .before .before .before .before .before), (c .before .before .before .before .before .before .before .before .before) .pre .1 .1)
+
 below-requires : tie.Need-below-requires
 below-requires c κs = search needs
-
-mul-least-for : tie.Need-mul-least-for
-mul-least-for c = omega (arith, job (c .before .before .before .before .before .before .before .before .before))
-
-shared-slice-read-least-for : tie.Need-shared-slice-read-least-for
-shared-slice-read-least-for c = omega (arith, job (c .before .before .before .before .before .before .before .before .before .before), (c .before .before .before .before .before .before .before .before .before .before) .pre .1 .1)
 
 least-for-requires : tie.Need-least-for-requires
 least-for-requires c κs = (
   known (c .before .before .before .before .before .before .before .before .before .before) .setup .reads .words (suc (c .before .before .before .before .before .before .before .before .before .before .args .b)),
   levels-leveled (known (c .before .before .before .before .before .before .before .before .before .before) .turn .tracks .levels),
-  rw (c .before .below .ensures) (reaches (known (c .before .before .before .before .before .before .before .before .before .before))),
+  rw (c .below .ensures) (reaches (known (c .before .before .before .before .before .before .before .before .before .before))),
 )
 
 sub-j : tie.Need-sub-j
-sub-j c = found c .0
+sub-j c = found (c .before) .0
 
 add-g : tie.Need-add-g
-add-g c = omega (arith, lowest c .high)
+add-g c = search needs
 
 cast-g : tie.Need-cast-g
-cast-g c = omega (arith, lowest c .high)
+cast-g c = search needs
 
 mul-top : tie.Need-mul-top
-mul-top c = omega (arith, few (start c))
+mul-top c = omega (arith, few (c .before .before .before .before .before .before .before .before .before .before .before .before .before))
 
 cast-top : tie.Need-cast-top
-cast-top c = omega (arith, few (start c))
-
-ahead-requires : tie.Need-ahead-requires
-ahead-requires c κs = (levels-leveled (known (start c) .turn .tracks .levels), c .least-for .ensures .low, lowest c .high, omega (arith, found c, few (start c)))
-
-with-requires : tie.Need-with-requires
-with-requires c κs = (omega arith, found (c .before) .0, omega (arith, found (c .before), few (start (c .before))))
+cast-top c = omega (arith, few (c .before .before .before .before .before .before .before .before .before .before .before .before .before))
 
 mul-most-on : tie.Need-mul-most-on
 mul-most-on c = omega (arith, taker (c .before .before))
@@ -189,17 +201,17 @@ cast-count c = omega (arith, c .before .before .before .before .hand-alike .ensu
 rise-requires : tie.Need-rise-requires
 rise-requires c κs = search needs
 
-mul-t45 : tie.Need-mul-t45
-mul-t45 c = omega (arith, raised c, counts (ran c))
+mul-t41 : tie.Need-mul-t41
+mul-t41 c = omega (arith, raised c, counts (ran c))
 
-add-t46 : tie.Need-add-t46
-add-t46 c = omega (arith, raised c, counts (ran c))
+add-t42 : tie.Need-add-t42
+add-t42 c = omega (arith, raised c, counts (ran c))
 
-mul-t47 : tie.Need-mul-t47
-mul-t47 c = omega (arith, counts (ran c))
+mul-t43 : tie.Need-mul-t43
+mul-t43 c = omega (arith, counts (ran c))
 
-add-t48 : tie.Need-add-t48
-add-t48 c = omega (arith, counts (ran c))
+add-t44 : tie.Need-add-t44
+add-t44 c = omega (arith, counts (ran c))
 
 same-length : tie.Need-same-length
 same-length c = search needs
@@ -217,7 +229,7 @@ returns c =
     let e = r .hand-alike .ensures .1 in (
       λ I v. rw (c .rise .ensures)
           (r .hand-alike .ensures .0 I (s .args .a) (s .args .m) (s .args .machines .now) (s .args .levels .now) (s .args .lifts) (s .args .pushes) (aiming (most r) I v)),
-      (e .0, e .1, omega (arith, e), simp length-set),
+      (e .0, e .1, omega (arith, e), simp length-set, moves r),
     )
 
 pub give-spec : {M : Type 1} → statement M
@@ -225,17 +237,15 @@ give-spec =
     tie.close
     (tie.spec
     slice-read-low
+    mul-mask
+    shared-slice-read-mask
     below-requires
-    mul-least-for
-    shared-slice-read-least-for
     least-for-requires
     sub-j
     add-g
     cast-g
     mul-top
     cast-top
-    ahead-requires
-    with-requires
     mul-most-on
     slice-read-most-on
     shared-slice-read-most-on
@@ -248,10 +258,10 @@ give-spec =
     sub-count
     cast-count
     rise-requires
-    mul-t45
-    add-t46
-    mul-t47
-    add-t48
+    mul-t41
+    add-t42
+    mul-t43
+    add-t44
     same-length
     same-length-2
     same-length-3

@@ -16,6 +16,7 @@ use Rattle.trials.proofs.Take.{take-long}
 use Rattle.trials.proofs.Verdict.{begins}
 use Rattle.trials.proofs.Trying.{tries-pass, tries-dark, tries-stuck}
 use borrow.Author.Needs.{needs, length-unmapped}
+use Rattle.trials.proofs.Running.{fresh-flat}
 use Rattle.trials.proofs.trial.try_level.Statement.{statement}
 use Rattle.trials.proofs.trial.try_level.Tie as tie
 use Rattle.trials.proofs.trial.try_level.Reads as reads
@@ -75,7 +76,7 @@ begin-requires c κs = search needs
 run-requires : tie.Need-run-requires
 run-requires c κs = (
   (inst (c .before .before .before .before), begins (known (c .before .before .before .before)) (c .before .before .before .before .args .a) (c .before .before .before .before .args .limit) (c .before .before .before .before .pre .0 .2) (c .begin .ensures)),
-  (c .before .before .before .before .pre .1 .0, c .before .before .before .before .pre .1 .1, c .begin .ensures .acting),
+  (c .before .before .before .before .pre .1 .0, c .before .before .before .before .pre .1 .1, c .begin .ensures .acting, fresh-flat (c .begin .ensures)),
 )
 
 slice-aggregate-first-over : tie.Need-slice-aggregate-first-over

@@ -1,0 +1,102 @@
+-- What is before b is done, a word at a time.
+-- Assumes nothing.
+use Prim.Native.Nat.{suc, _+_, _-_, _*_, _/_, _%_, _≤_}
+use mathlib.Core.Path.{_≡_, ap, _∙_}
+use native.Mathlib.Omega.{arith}
+use lib.ListN.{getD}
+use Rattle.arrays.specs.Sets.{has}
+use Rattle.rules.specs.Fold.{_or_}
+use Rattle.theory.proofs.Logic.{or-false, or-assoc}
+use Rattle.arrays.proofs.Words.{has-or}
+use Rattle.arrays.proofs.JobRows.{Changed, changed-none, changed-more, changed-in}
+use Rattle.arrays.proofs.rows.put_in.Statement.{statement}
+use Rattle.arrays.proofs.rows.put_in.Tie as tie
+
+abbrev Inv-loop : tie.InvT-loop
+Inv-loop rows₀ i from to b₀ rows b = (from ≤ b) × (b ≤ to) × Changed _or_ rows₀ rows i from b
+
+abbrev μ-loop : tie.MeasureT-loop
+μ-loop rows₀ i from to b₀ rows b = to - b
+
+loop-holds : tie.Need-loop-holds Inv-loop μ-loop
+loop-holds c = (omega arith, omega arith, changed-none _or_ or-false _ (c .before .pre .0) _ _)
+
+word-end-requires : tie.Need-word-end-requires Inv-loop μ-loop
+word-end-requires c κs = (omega arith, omega arith)
+
+mul-w : tie.Need-mul-w Inv-loop μ-loop
+mul-w c = omega arith
+
+add-w : tie.Need-add-w Inv-loop μ-loop
+add-w c = omega arith
+
+mul-rows : tie.Need-mul-rows Inv-loop μ-loop
+mul-rows c = omega arith
+
+slice-read-rows : tie.Need-slice-read-rows Inv-loop μ-loop
+slice-read-rows c = omega arith
+
+mul-span : tie.Need-mul-span Inv-loop μ-loop
+mul-span c = omega arith
+
+sub-span : tie.Need-sub-span Inv-loop μ-loop
+sub-span c = omega arith
+
+span-requires : tie.Need-span-requires Inv-loop μ-loop
+span-requires c κs = (omega arith, omega arith, omega arith)
+
+mul-rows-2 : tie.Need-mul-rows-2 Inv-loop μ-loop
+mul-rows-2 c = omega arith
+
+slice-write-rows : tie.Need-slice-write-rows Inv-loop μ-loop
+slice-write-rows c = omega arith
+
+loop-less : tie.Need-loop-less Inv-loop μ-loop
+loop-less c = omega arith
+
+loop-again : tie.Need-loop-again Inv-loop μ-loop
+loop-again c =
+    let at-loop = c .before .before .before .before in
+    let st = at-loop .before .before in
+    let i = st .args .i in
+    let b = at-loop .loop .b in
+    let end = c .before .before .word-end .result in
+    let x = getD (at-loop .loop .rows) (4 * i + b / 64) 0 in
+    let y = c .span .result in (
+      omega arith,
+      omega arith,
+      changed-more _or_ or-false i (st .pre .0) (λ a s t. or-assoc a s t) _ _ (st .args .from) b end (b / 64) (b % 64) (end - 64 * (b / 64)) _ (st .pre .1)
+          (omega arith) (omega arith) (omega arith) (omega arith) (omega arith) (omega arith)
+          (λ k l. has-or x y (suc k) ∙ ap (_or_ (has x (suc k))) (c .span .ensures k l))
+          (at-loop .loop .inv .2),
+    )
+
+same-length : tie.Need-same-length Inv-loop μ-loop
+same-length c = omega arith
+
+returns : tie.Need-returns Inv-loop μ-loop
+returns c =
+    let e : c .before .loop .b ≡ c .before .before .before .args .to = omega arith in
+    changed-in _ _ _ _ _ (rw e at (c .before .loop .inv .2))
+
+pub put-in-spec : {M : Type 1} → statement M
+put-in-spec =
+    tie.close
+    (tie.spec
+    Inv-loop
+    μ-loop
+    loop-holds
+    word-end-requires
+    mul-w
+    add-w
+    mul-rows
+    slice-read-rows
+    mul-span
+    sub-span
+    span-requires
+    mul-rows-2
+    slice-write-rows
+    loop-less
+    loop-again
+    same-length
+    returns)
