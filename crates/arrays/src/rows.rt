@@ -71,32 +71,31 @@ fn word_end(from: usize, to: usize) -> usize
     if end < to { end } else { to }
 }
 
-// The jobs from, .., to - 1 are taken out of the row of machine `i`, a word at a time.
-pub fn take_out(rows: &mut [u64], i: usize, from: usize, to: usize)
-    requires { ⌜ (i < 24) × (length (now rows) ≡ 96) × (from < to) × (to ≤ 256) ⌝ }
+// The jobs from, .., to - 1 go from the row of machine `i` to the row of machine `j` of `others`, a word at a time.
+pub fn pass_on(rows: &mut [u64], others: &mut [u64], i: usize, j: usize, from: usize, to: usize)
+    requires { ⌜ (i < 24) × (length (now rows) ≡ 96) × (j < 24) × (length (now others) ≡ 96) × (from < to) × (to ≤ 256) ⌝ }
     ensures { λ _. ⌜ Out (now (rows .entry)) (now (rows .exit)) i from to ⌝ }
+    ensures { λ _. ⌜ In (now (others .entry)) (now (others .exit)) j from to ⌝ }
 {
     let mut b = from;
     while b < to {
         let q = b / 64;
         let end = word_end(b, to);
+        let x = span(b % 64, end - 64 * q);
         let w = 4 * i + q;
-        rows[w] = rows[w] & !span(b % 64, end - 64 * q);
+        rows[w] = rows[w] & !x;
+        let v = 4 * j + q;
+        others[v] = others[v] | x;
         b = end;
     }
 }
 
-// They are put in.
-pub fn put_in(rows: &mut [u64], i: usize, from: usize, to: usize)
-    requires { ⌜ (i < 24) × (length (now rows) ≡ 96) × (from < to) × (to ≤ 256) ⌝ }
-    ensures { λ _. ⌜ In (now (rows .entry)) (now (rows .exit)) i from to ⌝ }
+// The job at index `b` is put into the row of machine `i`.
+pub fn enter(rows: &mut [u64], i: usize, b: usize)
+    requires { ⌜ (i < 24) × (length (now rows) ≡ 96) × (b < 256) ⌝ }
+    ensures { λ _. ⌜ In (now (rows .entry)) (now (rows .exit)) i b (b + 1) ⌝ }
 {
-    let mut b = from;
-    while b < to {
-        let q = b / 64;
-        let end = word_end(b, to);
-        let w = 4 * i + q;
-        rows[w] = rows[w] | span(b % 64, end - 64 * q);
-        b = end;
-    }
+    let k = b % 64;
+    let w = 4 * i + b / 64;
+    rows[w] = rows[w] | span(k, k + 1);
 }

@@ -13,9 +13,8 @@ use crate::State;
 use arrays::rows::clear_row;
 use arrays::rows::copy_row;
 use arrays::rows::first_in;
-use arrays::rows::put_in;
+use arrays::rows::pass_on;
 use arrays::rows::some_in;
-use arrays::rows::take_out;
 use arrays::scan::first_able;
 use arrays::scan::some_at_most;
 use arrays::sets::least_for;
@@ -301,8 +300,7 @@ fn hand_over(
             l,
             p,
         );
-        take_out(below, i, b - 1, g.next);
-        put_in(above, g.to, b - 1, g.next);
+        pass_on(below, above, i, g.to, b - 1, g.next);
         l = g.lifts;
         p = g.pushes;
         if !g.stays {

@@ -14,7 +14,7 @@ use crate::State;
 use crate::group::all_machines;
 use crate::group::closure_of;
 use crate::step::step;
-use arrays::rows::put_in;
+use arrays::rows::enter;
 use arrays::scan::some_at_most;
 use arrays::setup::first_over;
 
@@ -56,7 +56,7 @@ fn rows_of(places: &[u8], n: usize) -> [u64; 96]
     let mut b: usize = 0;
     while b < n {
         let i = places[b] as usize - 1;
-        put_in(&mut rows, i, b, b + 1);
+        enter(&mut rows, i, b);
         b += 1;
     }
     rows

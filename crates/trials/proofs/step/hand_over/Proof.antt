@@ -99,22 +99,19 @@ some c = omega (arith, c .before .before .before .before .if1 .left)
 
 -- ---- after the rows are changed
 
-abbrev gave : tie.After-put-in Inv-loop μ-loop → tie.After-give Inv-loop μ-loop
-gave c = c .before .before .before .before .before .before .before .before .before .before .before .before
+abbrev gave : tie.After-pass-on Inv-loop μ-loop → tie.After-give Inv-loop μ-loop
+gave c = c .before .before .before .before .before .before .before .before .before
 
-abbrev took : tie.After-put-in Inv-loop μ-loop → tie.After-take-out Inv-loop μ-loop
-took c = c .before .before .before .before
-
-near-next : (c : tie.After-put-in Inv-loop μ-loop) (level : List ℕ)
+near-next : (c : tie.After-pass-on Inv-loop μ-loop) (level : List ℕ)
     → Near (start (head (searched (gave c))) .args .below .now) level (start (head (searched (gave c))) .args .above .now) (start (head (searched (gave c))) .args .machines .now)
     (start (head (searched (gave c))) .args .jobs .now) (start (head (searched (gave c))) .args .places .now) (start (head (searched (gave c))) .args .n)
-    → Near (took c .take-out .last .0) level (c .put-in .last .0) (start (head (searched (gave c))) .args .machines .now) (gave c .give .last .1 .0) (gave c .give .last .0) (start (head (searched (gave c))) .args .n)
+    → Near (c .pass-on .last .0) level (c .pass-on .last .1 .0) (start (head (searched (gave c))) .args .machines .now) (gave c .give .last .1 .0) (gave c .give .last .0) (start (head (searched (gave c))) .args .n)
 near-next c level v =
     let e = gave c .give .ensures .1 in
-    near-moved (head (searched (gave c)) .loop .inv .7 level v) (e .4 .ranged) (e .4 .giver) refl (e .1) (took c .take-out .ensures) (c .put-in .ensures)
+    near-moved (head (searched (gave c)) .loop .inv .7 level v) (e .4 .ranged) (e .4 .giver) refl (e .1) (c .pass-on .ensures .0) (c .pass-on .ensures .1)
 
 -- the pushes are within their bound
-paid : (c : tie.After-put-in Inv-loop μ-loop) → gave c .give .result .pushes ≤ 480000
+paid : (c : tie.After-pass-on Inv-loop μ-loop) → gave c .give .result .pushes ≤ 480000
 paid c =
     let d = searched (gave c) in
     let s = start (head d) in
@@ -159,23 +156,20 @@ give-requires c κs =
       (s .pre .1 .0, s .pre .1 .1, long (head d) .0, long (head d) .1, s .pre .1 .4),
     )
 
-sub-take-out : tie.Need-sub-take-out Inv-loop μ-loop
-sub-take-out c = omega (arith, some (c .before .before .before .before .before .before .before))
+sub-pass-on : tie.Need-sub-pass-on Inv-loop μ-loop
+sub-pass-on c = omega (arith, some (c .before .before .before .before .before .before .before .before))
 
-take-out-requires : tie.Need-take-out-requires Inv-loop μ-loop
-take-out-requires c κs =
-    let g = c .before .before .before .before .before .before .before in
-    let s = start (head (searched g)) in
-    (s .pre .1 .6, near (head (searched g)) .longs .0, g .give .ensures .1 .0, omega (arith, g .give .ensures .1 .1, s .pre .1 .5))
-
-sub-put-in : tie.Need-sub-put-in Inv-loop μ-loop
-sub-put-in c = omega (arith, some (c .before .before .before .before .before .before .before .before .before .before .before))
-
-put-in-requires : tie.Need-put-in-requires Inv-loop μ-loop
-put-in-requires c κs =
-    let g = c .before .before .before .before .before .before .before .before .before .before .before in
-    let s = start (head (searched g)) in
-    (g .give .ensures .1 .4 .taker, near (head (searched g)) .longs .2, g .give .ensures .1 .0, omega (arith, g .give .ensures .1 .1, s .pre .1 .5))
+pass-on-requires : tie.Need-pass-on-requires Inv-loop μ-loop
+pass-on-requires c κs =
+    let g = c .before .before .before .before .before .before .before .before in
+    let s = start (head (searched g)) in (
+      s .pre .1 .6,
+      near (head (searched g)) .longs .0,
+      g .give .ensures .1 .4 .taker,
+      near (head (searched g)) .longs .2,
+      g .give .ensures .1 .0,
+      omega (arith, g .give .ensures .1 .1, s .pre .1 .5),
+    )
 
 same-length-6 : tie.Need-same-length-6 Inv-loop μ-loop
 same-length-6 c = search needs
@@ -194,7 +188,7 @@ same-length-10 c = search needs
 
 returns-2 : tie.Need-returns-2 Inv-loop μ-loop
 returns-2 c =
-    let w = c .before .before .before .before in
+    let w = c .before .before .before .before .before .before in
     let g = gave w in
     let d = searched g in (
       λ I v. went-stopped v (at-head (head d)) (head d .loop .inv .6 I v) (g .give .ensures .0 I (gives d (some g) I v)),
@@ -203,19 +197,19 @@ returns-2 c =
 
 loop-less : tie.Need-loop-less Inv-loop μ-loop
 loop-less c =
-    let w = c .before .before .before .before in
+    let w = c .before .before .before .before .before .before in
     omega (arith, gave w .give .ensures .1 .2, paid w)
 
 loop-again : tie.Need-loop-again Inv-loop μ-loop
 loop-again c =
-    let w = c .before .before .before .before in
+    let w = c .before .before .before .before .before .before in
     let g = gave w in
     let d = searched g in (
       search needs,
       search needs,
       g .give .ensures .1 .3 ∙ head d .loop .inv .2,
-      took w .take-out .ensures .long ∙ head d .loop .inv .3,
-      w .put-in .ensures .long ∙ head d .loop .inv .4,
+      w .pass-on .ensures .0 .long ∙ head d .loop .inv .3,
+      w .pass-on .ensures .1 .long ∙ head d .loop .inv .4,
       omega (arith, head d .loop .inv .5, g .give .ensures .1),
       λ I v. along-again (along-on v (at-head (head d)) (head d .loop .inv .6 I v) (g .give .ensures .0 I (gives d (some g) I v))
           (not-false (g .give .result .stays) (c .if2 .left))),
@@ -238,10 +232,8 @@ hand-over-spec =
     returns
     sub-give
     give-requires
-    sub-take-out
-    take-out-requires
-    sub-put-in
-    put-in-requires
+    sub-pass-on
+    pass-on-requires
     same-length-6
     same-length-7
     same-length-8

@@ -27,14 +27,11 @@ cast-i c = omega (arith, c .before .before .before .before .pre .2 _ (c .before 
 sub-i : tie.Need-sub-i Inv-loop μ-loop
 sub-i c = omega (arith, c .before .before .before .before .pre .2 _ (c .before .loop-test .taken))
 
-slice-aggregate-put-in : tie.Need-slice-aggregate-put-in Inv-loop μ-loop
-slice-aggregate-put-in c = sym (c .before .before .before .loop .inv .1)
+slice-aggregate-enter : tie.Need-slice-aggregate-enter Inv-loop μ-loop
+slice-aggregate-enter c = sym (c .before .before .before .loop .inv .1)
 
-add-put-in : tie.Need-add-put-in Inv-loop μ-loop
-add-put-in c = omega (arith, c .before .before .before .before .before .pre .0, c .before .before .loop-test .taken)
-
-put-in-requires : tie.Need-put-in-requires Inv-loop μ-loop
-put-in-requires c κs = (omega (arith, c .before .before .before .before .before .pre .2 _ (c .before .before .loop-test .taken)), c .before .before .before .loop .inv .1, omega arith, omega (arith, c .before .before .before .before .before .pre .0, c .before .before .loop-test .taken))
+enter-requires : tie.Need-enter-requires Inv-loop μ-loop
+enter-requires c κs = (omega (arith, c .before .before .before .before .before .pre .2 _ (c .before .before .loop-test .taken)), c .before .before .before .loop .inv .1, omega (arith, c .before .before .before .before .before .pre .0, c .before .before .loop-test .taken))
 
 add-b : tie.Need-add-b Inv-loop μ-loop
 add-b c = omega (arith, c .before .before .before .before .before .before .before .pre .0, c .before .before .before .before .loop-test .taken)
@@ -45,8 +42,8 @@ loop-less c = omega (arith, c .before .before .before .before .loop-test .taken)
 loop-again : tie.Need-loop-again Inv-loop μ-loop
 loop-again c = (
   omega (arith, c .before .before .before .before .loop-test .taken),
-  c .before .put-in .ensures .long ∙ c .before .before .before .before .before .loop .inv .1,
-  entered-more (c .before .before .before .before .before .before .before .args .places .now) (c .before .before .before .before .before .loop .inv .2) refl (c .before .before .before .before .before .before .before .pre .2 _ (c .before .before .before .before .loop-test .taken) .0) (c .before .put-in .ensures),
+  c .before .enter .ensures .long ∙ c .before .before .before .before .before .loop .inv .1,
+  entered-more (c .before .before .before .before .before .before .before .args .places .now) (c .before .before .before .before .before .loop .inv .2) refl (c .before .before .before .before .before .before .before .pre .2 _ (c .before .before .before .before .loop-test .taken) .0) (c .before .enter .ensures),
 )
 
 returns : tie.Need-returns Inv-loop μ-loop
@@ -64,9 +61,8 @@ rows-of-spec =
     shared-slice-read-i
     cast-i
     sub-i
-    slice-aggregate-put-in
-    add-put-in
-    put-in-requires
+    slice-aggregate-enter
+    enter-requires
     add-b
     loop-less
     loop-again
