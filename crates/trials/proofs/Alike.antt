@@ -1,25 +1,24 @@
 -- A run of hand-overs to one machine: jobs side by side that stand just below the giver and may run on the same machines.
 -- Assumes nothing.
-use Prim.Native.Nat.{ℕ, zero, suc, _+_, _-_, _*_, _≤_, _<_}
+use Prim.Native.Nat.{ℕ, suc, _+_, _-_, _*_, _≤_, _<_}
 use mathlib.Core.Path.{_≡_, refl, sym, ap, subst, _∙_}
 use mathlib.Core.Bool.{Bool, true, false}
-use mathlib.Core.Logic.{_⊎_, inl, inr}
+use mathlib.Core.Logic.{inl, inr}
 use mathlib.Core.List.{List}
 use native.Mathlib.Numerals.{add-one}
 use native.Mathlib.Omega.{arith}
 use native.Mathlib.Decide.{decLe}
 use lib.ListN.{length, getD, take, set, length-set}
 use lib.Dec.{ltb, eqb}
-use borrow.Author.Tests.{lt-ltb, ltb-true, eq-eqb, eqb-true}
-use Rattle.rules.specs.Fold.{_and_, pick, at, firstTo}
+use borrow.Author.Tests.{ltb-true, eq-eqb, eqb-true}
+use Rattle.rules.specs.Fold.{_and_, pick, at}
 use Rattle.rules.specs.Instance.{Instance, n}
 use Rattle.theory.proofs.Logic.{and-left, and-right, and-mk}
 use Rattle.theory.proofs.View.{First, first, first-hit}
 use Rattle.theory.proofs.Iterate.{here, leads-trans}
-use Rattle.theory.proofs.Turn.{nextOff}
 use Rattle.arrays.specs.Sets.{LowestIn}
 use Rattle.trials.specs.declared.State.{State}
-use Rattle.trials.specs.Track.{stateOf, arrays, after, Turn, Passed, GoesOn, Giving, Aiming, Onward, Passing, Along}
+use Rattle.trials.specs.Track.{arrays, after, Passed, GoesOn, Giving, Aiming, Onward, Passing, Along}
 use Rattle.trials.proofs.Handing.{machine-in}
 use Rattle.trials.proofs.Raising.{next-by}
 use Rattle.trials.proofs.Giving.{heavy, machine-found, minutes-at, load-small, giver-in}
@@ -28,16 +27,16 @@ use Rattle.trials.proofs.Kept.{kept-start, kept-giver, kept-taker, kept
 
 -- ---- the test for one more
 
-module _ (b c place number height low set mask : ℕ) where
-  pub alike-is : (ltb b c and eqb place number and eqb height low and eqb set mask) ≡ true → (b < c) × (place ≡ number) × (height ≡ low) × (set ≡ mask)
-  alike-is e =
-      let f = and-right (ltb b c) _ e in
-      let g = and-right (eqb place number) _ f in
-      (ltb-true b c (and-left (ltb b c) _ e), eqb-true place number (and-left (eqb place number) _ f), eqb-true height low (and-left (eqb height low) _ g), eqb-true set mask (and-right (eqb height low) _ g))
-
-  pub is-alike : b < c → place ≡ number → height ≡ low → set ≡ mask → (ltb b c and eqb place number and eqb height low and eqb set mask) ≡ true
-  is-alike h p q r =
-      and-mk (ltb b c) _ (lt-ltb b c h) (and-mk (eqb place number) _ (eq-eqb place number p) (and-mk (eqb height low) _ (eq-eqb height low q) (eq-eqb set mask r)))
+pub alike-is : (b c place number height low x want : ℕ) → (ltb b c and eqb place number and eqb height low and eqb x want) ≡ true
+    → (b < c) × (place ≡ number) × (height ≡ low) × (x ≡ want)
+alike-is b c place number height low x want e =
+    let f = and-right (ltb b c) _ e in
+    let g = and-right (eqb place number) _ f in (
+      ltb-true b c (and-left (ltb b c) _ e),
+      eqb-true place number (and-left (eqb place number) _ f),
+      eqb-true height low (and-left (eqb height low) _ g),
+      eqb-true x want (and-right (eqb height low) _ g),
+    )
 
 -- ---- the job that comes next
 
@@ -68,11 +67,8 @@ passing-of v = record { setup = v .setup; turn = v .turn; wide = v .wide }
 -- ---- the run
 
 module _ (machines jobs₀ places₀ loads levels : List ℕ) (lifts pushes : ℕ)
-    {I : Instance} {a limit m c : ℕ} {lengths sets : List ℕ} {i low j g mask most start : ℕ}
-    (v : Aiming I a limit m c lengths sets i low j g mask most start (arrays machines jobs₀ places₀ loads levels lifts pushes)) where
-  t₀ : State
-  t₀ = arrays machines jobs₀ places₀ loads levels lifts pushes
-
+    {I : Instance} {a limit m c : ℕ} {lengths sets : List ℕ} {i low j g watch want most start : ℕ}
+    (v : Aiming I a limit m c lengths sets i low j g watch want most start (arrays machines jobs₀ places₀ loads levels lifts pushes)) where
   next : Next i start c (arrays machines jobs₀ places₀ loads levels lifts pushes)
   next = next-of (v .giving)
 
@@ -82,8 +78,7 @@ module _ (machines jobs₀ places₀ loads levels : List ℕ) (lifts pushes : �
       omega (
         arith,
         machine-found (v .giving) (suc j) (v .height)
-            (subst (λ (s : ℕ). LowestIn s levels (getD jobs₀ start 0 - 1) (suc j) (v .height)) (sym (v .word))
-            (subst (λ (s : ℕ). LowestIn mask levels (s - 1) (suc j) (v .height)) (sym (v .stands)) (v .lowest))) .1,
+            (subst (λ (s : ℕ). LowestIn (getD sets start 0) levels (s - 1) (suc j) (v .height)) (sym (v .stands)) (v .lowest)) .1,
       )
 
   few : m ≤ 24
@@ -128,10 +123,8 @@ module _ (machines jobs₀ places₀ loads levels : List ℕ) (lifts pushes : �
   module _ {b x y : ℕ} {jobs places : List ℕ}
       (k : Along I a i b (arrays machines jobs₀ places₀ loads levels lifts pushes) (after machines jobs places loads levels lifts pushes i j low g start b x y))
       (same : i ≡ j → x ≡ y) (grown : getD loads j 0 ≤ y) (from : start ≤ b)
-      (job : b < c) (on : getD places b 0 ≡ i + 1) (stands : getD jobs b 0 ≡ low) (word : getD sets b 0 ≡ mask) where
-    t : State
-    t = after machines jobs places loads levels lifts pushes i j low g start b x y
-
+      (job : b < c) (on : getD places b 0 ≡ i + 1) (stands : getD jobs b 0 ≡ low)
+      (lowest : LowestIn (getD sets b 0) levels (low - 1) (suc j) (v .height)) where
     -- one more that stands just so is next
     giving : Giving I a limit m c lengths sets i b (after machines jobs places loads levels lifts pushes i j low g start b x y)
     giving = record {
@@ -228,8 +221,7 @@ module _ (machines jobs₀ places₀ loads levels : List ℕ) (lifts pushes : �
           (subst (λ (s : State). Onward I a i (suc b) (after machines jobs places loads levels lifts pushes i j low g start b x y) s stays) same-state
           (given machines jobs places (set (set loads i x) j y) levels (lifts + pick (eqb low g) 0 1 * (b - start)) (pushes + 2 * (b - start)) giving
           j (v .height) (pick (eqb low g) 0 1) (getD lengths b 0) stays
-          (subst (λ (s : ℕ). LowestIn s levels (getD jobs b 0 - 1) (suc j) (v .height)) (sym word)
-          (subst (λ (s : ℕ). LowestIn mask levels (s - 1) (suc j) (v .height)) (sym stands) (v .lowest)))
+          (subst (λ (s : ℕ). LowestIn (getD sets b 0) levels (s - 1) (suc j) (v .height)) (sym stands) lowest)
           refl up goes))
         where
           up : _≡_ {A = ℕ} (pick (eqb low g) 0 1) (pick (eqb (getD jobs b 0) (v .height + 1)) 0 1)
@@ -258,12 +250,4 @@ onward-after k o = record {
   tracks = o .tracks;
   passed = o .passed;
   turn = o .turn;
-}
-
-pub onward-all : {I : Instance} {a i from : ℕ} {t₀ t : State} → Along I a i from t₀ t → Onward I a i from t₀ t true
-onward-all k = record {
-  leads = k .leads;
-  tracks = k .turn .tracks;
-  passed = k .passed;
-  turn = λ e. k .turn;
 }

@@ -1,22 +1,21 @@
 -- A hand-over as the code makes it, on arrays by index.
 -- Assumes nothing.
-use Prim.Native.Nat.{ℕ, zero, suc, _+_, _-_, _*_, _≤_, _<_}
-use mathlib.Core.Path.{_≡_, refl, sym, ap, subst, _∙_}
+use Prim.Native.Nat.{ℕ, suc, _+_, _-_, _≤_}
+use mathlib.Core.Path.{_≡_, sym, ap, subst, _∙_}
 use mathlib.Core.Bool.{Bool, true, false}
 use mathlib.Core.List.{List}
 use native.Mathlib.Numerals.{add-one}
 use native.Mathlib.Omega.{arith}
 use lib.ListN.{length, getD, set}
 use lib.Dec.{eqb}
-use Rattle.rules.specs.Fold.{pick, at}
-use Rattle.rules.specs.Instance.{Instance, n, minutesOf}
+use Rattle.rules.specs.Fold.{pick}
+use Rattle.rules.specs.Instance.{Instance, minutesOf}
 use Rattle.trials.specs.declared.State.{State}
 use Rattle.arrays.specs.Sets.{LowestIn}
 use Rattle.trials.specs.Track.{arrays, GoesOn, Giving, Onward}
-use Rattle.trials.proofs.Shifted.{shifted}
-use Rattle.trials.proofs.Handing.{handOn, machine-in}
+use Rattle.trials.proofs.Handing.{handOn}
 use Rattle.trials.proofs.Moving.{onward}
-use Rattle.trials.proofs.Giving.{chosen, height-is, machine-found, minutes-at}
+use Rattle.trials.proofs.Giving.{chosen, height-is, minutes-at}
 
 -- loads after w minutes went from index i to index j
 abbrev pub shiftAt : List ℕ → ℕ → ℕ → ℕ → List ℕ

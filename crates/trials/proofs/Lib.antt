@@ -19,4 +19,5 @@ pub mod Take
 pub mod Trying
 pub mod Turning
 pub mod Verdict
+pub mod Watch
 pub mod Within

@@ -1,29 +1,28 @@
 -- What one hand-over on the arrays comes to, with the test of whose turn it is.
 -- Assumes nothing.
-use Prim.Native.Nat.{ℕ, zero, suc, _+_, _-_, _*_, _≤_, _<_}
+use Prim.Native.Nat.{ℕ, suc, _-_, _≤_, _<_}
 use mathlib.Core.Path.{_≡_, refl, sym, ap, subst, _∙_}
-use mathlib.Core.Bool.{Bool, true, false, not}
-use mathlib.Core.Logic.{_≢_, _⊎_, inl, inr}
+use mathlib.Core.Bool.{Bool, true, false}
+use mathlib.Core.Logic.{_≢_}
 use mathlib.Core.List.{List}
 use native.Mathlib.Omega.{arith}
 use native.Mathlib.Decide.{ℕ-discrete}
-use lib.ListN.{length, take, getD, set}
-use lib.Dec.{ltb, leb, eqb}
-use borrow.Author.Tests.{ltb-true, lt-ltb, leb-true, le-leb, eqb-true, not-true}
-use Rattle.rules.specs.Fold.{_and_, _or_, pick, at, put, anyTo}
+use lib.ListN.{length, take}
+use lib.Dec.{eqb}
+use borrow.Author.Tests.{eqb-true}
+use Rattle.rules.specs.Fold.{_and_, at, put}
 use Rattle.rules.specs.Instance.{Instance, n, minutesOf}
-use Rattle.rules.specs.Trial.{machineArc, someUnderloaded}
-use Rattle.theory.proofs.Logic.{byTest, conflict, and-left, and-right, and-mk, or-cases, not-mk}
-use Rattle.theory.proofs.View.{None, First, first}
-use Rattle.theory.proofs.Fold.{at-put-same, at-put-other, length-put}
-use Rattle.theory.proofs.Heights.{put-cases}
+use Rattle.rules.specs.Trial.{machineArc}
+use Rattle.theory.proofs.Logic.{byTest, and-left, and-right}
+use Rattle.theory.proofs.View.{First, first}
+use Rattle.theory.proofs.Fold.{at-put-same, at-put-other}
 use Rattle.theory.proofs.Turn.{nextOff, leastFor}
 use Rattle.trials.specs.declared.State.{State}
 use Rattle.trials.specs.Track.{stateOf, Setup, Tracks, Turn, GoesOn, Passed, Onward}
 use Rattle.trials.proofs.Take.{at-take, take-long}
-use Rattle.trials.proofs.Shifted.{shifted, length-shifted}
-use Rattle.trials.proofs.Handing.{handOn, on-it, target-in, machine-in, leads, tracks}
-use Rattle.trials.proofs.Going.{still-first, still-some, some-by}
+use Rattle.trials.proofs.Shifted.{shifted}
+use Rattle.trials.proofs.Handing.{handOn, machine-in, leads, tracks}
+use Rattle.trials.proofs.Going.{still-first, still-some}
 
 module _ (I : Instance) (a : ℕ) (t : State) (i : ℕ) (k : Turn I a (suc i) t)
     (b j : ℕ) (z : nextOff I (stateOf (I .m) (n I) t) (suc i) ≡ suc b) (f : leastFor I (stateOf (I .m) (n I) t) (suc b) ≡ suc j)

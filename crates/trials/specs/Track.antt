@@ -6,6 +6,7 @@ use mathlib.Core.Bool.{Bool, true, false}
 use mathlib.Core.Logic.{_⊎_}
 use mathlib.Core.List.{List}
 use lib.ListN.{length, take, getD, set}
+use lib.Bits.{bitAnd}
 use lib.Dec.{eqb}
 use Rattle.rules.specs.Fold.{_and_, pick, at, firstTo}
 use Rattle.rules.specs.Instance.{Instance, n}
@@ -18,7 +19,7 @@ use Rattle.theory.proofs.Steps.{made}
 use Rattle.theory.proofs.Iterate.{Leads}
 use Rattle.theory.proofs.Turn.{Placed, able, nextOff}
 use Rattle.trials.specs.declared.State.{State}
-use Rattle.arrays.specs.Sets.{Levels, LowestIn}
+use Rattle.arrays.specs.Sets.{has, Levels, LowestIn}
 use Rattle.trials.specs.Reads.{Reads}
 
 -- the rules' state that the arrays hold, for m machines and n jobs
@@ -82,8 +83,8 @@ pub record GoesOn (m a limit i j old x y : ℕ) (machines : List ℕ) : Type 0 w
 abbrev pub Passed : ℕ → ℕ → State → Type 0
 Passed i c t = None c (λ b. eqb (at (t .places) b) (suc i) and eqb (at (t .machines) (suc i)) (suc (at (t .jobs) b)))
 
--- from t to t′, where the machine at index i handed jobs over, none is left just below it up to number from, and it is still its turn or
--- not
+-- from t to t′, where the machine at index i handed jobs over, none is left just below it up to number from, and it is still its turn where
+-- stays says so
 pub record Onward (I : Instance) (a i from : ℕ) (t t′ : State) (stays : Bool) : Type 0 where
   pub leads : Leads I a (stateOf (I .m) (n I) t) (stateOf (I .m) (n I) t′)
   pub tracks : Tracks I a t′
@@ -102,14 +103,19 @@ abbrev pub Gives : ℕ → ℕ → ℕ → ℕ → List ℕ → List ℕ → ℕ
 Gives a limit m c lengths sets i b from t t′ stays =
     (I : Instance) → Giving I a limit m c lengths sets i b t → Onward I a i from t t′ stays
 
--- And it is known where that job goes, of height low and of the set mask: to the machine at index j, where it gets height g. Up to the
--- load most of j it stays the giver's turn, as far as j goes.
-pub record Aiming (I : Instance) (a limit m c : ℕ) (lengths sets : List ℕ) (i low j g mask most b : ℕ) (t : State) : Type 0 where
+-- x has the machines that stand at the levels from `from` on below height, and those at height up to machine
+pub record Ahead (levels : List ℕ) (from machine height x : ℕ) : Type 0 where
+  pub lower : (h q : ℕ) → from ≤ h → h < height → has (getD levels h 0) q ≡ true → has x q ≡ true
+  pub level : (q : ℕ) → 0 < q → q ≤ machine → has (getD levels height 0) q ≡ true → has x q ≡ true
+
+-- And it is known where that job goes, of height low: to the machine at index j, where it gets height g. So does each job of that
+-- height that may run, of the machines in watch, on those in want alone. Up to the load most of j it stays the giver's turn, as far as j goes.
+pub record Aiming (I : Instance) (a limit m c : ℕ) (lengths sets : List ℕ) (i low j g watch want most b : ℕ) (t : State) : Type 0 where
   pub giving : Giving I a limit m c lengths sets i b t
   pub stands : getD (t .jobs) b 0 ≡ low
-  pub word : getD sets b 0 ≡ mask
   pub height : ℕ
-  pub lowest : LowestIn mask (t .levels) (low - 1) (suc j) height
+  pub lowest : LowestIn (getD sets b 0) (t .levels) (low - 1) (suc j) height
+  pub alike : (x : ℕ) → bitAnd x watch ≡ want → LowestIn x (t .levels) (low - 1) (suc j) height
   pub lands : g ≡ height + 1
   pub rests : getD (t .loads) j 0 ≤ a → most ≤ a
   pub yields : j < i → getD (t .machines) j 0 ≤ 2 * m → most ≤ limit
@@ -125,7 +131,7 @@ pub record Passing (I : Instance) (a limit m c : ℕ) (lengths sets : List ℕ) 
   pub turn : Turn I a (suc i) t
   pub wide : length (t .loads) ≡ 24
 
--- it has ended: stopped by another's turn or the trial's end, or with no job left just below the machine
+-- it has ended: stopped, as another's turn or the trial's end may have come, or with no job left just below the machine
 pub record Went (I : Instance) (a i : ℕ) (t t′ : State) (stopped : Bool) : Type 0 where
   pub leads : Leads I a (stateOf (I .m) (n I) t) (stateOf (I .m) (n I) t′)
   pub tracks : Tracks I a t′

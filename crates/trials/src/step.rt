@@ -1,15 +1,18 @@
-// A step of a trial: one machine's turn.
+// A step of a trial: turns of machines, one after the other.
 ghost use mathlib.Core.Path.{_≡_};
 ghost use mathlib.Core.Bool.{true, false};
 ghost use mathlib.Core.List.{List};
 ghost use Prim.Native.Nat.{ℕ, suc, _+_, _-_, _≤_, _<_};
 ghost use lib.ListN.{length, getD};
+ghost use lib.Bits.{bitAnd};
 ghost use lib.Dec.{ltb, eqb};
 ghost use Rattle.rules.specs.Fold.{_and_, pick};
 ghost use Rattle.rules.specs.Instance.{Instance};
+ghost use Rattle.arrays.specs.Sets.{Leveled};
 ghost use Rattle.trials.specs.Near.{Near, Ranged, Moves, Rises};
-ghost use Rattle.trials.specs.Track.{arrays, stateWith, Wide, Giving, Gives, Aiming, Onward, after, Passing, Goes, Stepping, Steps};
+ghost use Rattle.trials.specs.Track.{arrays, stateWith, Wide, Ahead, Giving, Gives, Aiming, Onward, after, Passing, Goes, Stepping, Steps};
 use crate::State;
+use crate::group::all_machines;
 use arrays::rows::clear_row;
 use arrays::rows::copy_row;
 use arrays::rows::first_in;
@@ -17,8 +20,10 @@ use arrays::rows::pass_on;
 use arrays::rows::some_in;
 use arrays::scan::first_able;
 use arrays::scan::some_at_most;
+use arrays::sets::common;
 use arrays::sets::least_for;
 use arrays::sets::lift_level;
+use arrays::sets::with;
 
 // The minutes that a job takes along from machine i to machine j: none where it comes straight back.
 fn weigh(minutes: u16, i: usize, j: usize) -> u32
@@ -34,8 +39,8 @@ fn rise(low: u8, g: u8) -> u32
     if low == g { 0 } else { 1 }
 }
 
-// A load that machine j, now of load y and height h, may come to while it stays machine i's turn: above it j has the turn, or was the
-// last underloaded one.
+// A load that machine j, now of load y and height h, may come to while it stays machine i's turn: above it j has the turn, or may have
+// been the last underloaded one.
 fn most_on(y: u32, h: u8, a: u32, limit: u32, top: u8, i: usize, j: usize) -> u32
     requires { ⌜ a ≤ limit ⌝ }
     ensures { λ r. ⌜ (y ≤ a → r ≤ a) × (j < i → h ≤ top → r ≤ limit) ⌝ }
@@ -49,7 +54,22 @@ fn most_on(y: u32, h: u8, a: u32, limit: u32, top: u8, i: usize, j: usize) -> u3
     if h <= top { limit } else { 4294967295 }
 }
 
-// Job b, by index, is on a machine, of height low, and may run on the machines of mask.
+// The machines that a job goes to before it goes to `machine` at level `height`, and that machine: those at the levels from `from` on
+// below `height`, and those at `height` up to `machine`.
+fn ahead(levels: &[u32], from: usize, machine: usize, height: usize) -> u32
+    requires { ⌜ Leveled (now levels) × (from ≤ height) × (height < 64) × (machine ≤ 24) ⌝ }
+    ensures { λ r. ⌜ Ahead (now (levels .entry)) from machine height r ⌝ }
+{
+    let mut x = common(levels[height], all_machines(machine));
+    let mut h = from;
+    while h < height {
+        x = x | levels[h];
+        h += 1;
+    }
+    x
+}
+
+// Job b, by index, is on a machine, of height low, and of the machines in watch it may run on those in want alone.
 fn alike(
     places: &[u8],
     jobs: &[u8],
@@ -58,10 +78,11 @@ fn alike(
     b: usize,
     number: u8,
     low: u8,
-    mask: u32,
+    watch: u32,
+    want: u32,
 ) -> bool
     requires { ⌜ (n ≤ length (now places)) × (n ≤ length (now jobs)) × (n ≤ length (now masks)) ⌝ }
-    ensures { λ r. ⌜ r ≡ (ltb b n and eqb (getD (now (places .entry)) b 0) number and eqb (getD (now (jobs .entry)) b 0) low and eqb (getD (now (masks .entry)) b 0) mask) ⌝ }
+    ensures { λ r. ⌜ r ≡ (ltb b n and eqb (getD (now (places .entry)) b 0) number and eqb (getD (now (jobs .entry)) b 0) low and eqb (bitAnd (getD (now (masks .entry)) b 0) watch) want) ⌝ }
 {
     if b >= n {
         return false;
@@ -72,21 +93,11 @@ fn alike(
     if jobs[b] != low {
         return false;
     }
-    masks[b] == mask
+    masks[b] & watch == want
 }
 
-// It is still the turn of a machine of load x, after it gave a job to one that has load y then.
-fn lasts(x: u32, limit: u32, y: u32, most: u32) -> bool
-    ensures { λ r. ⌜ (r ≡ true → (limit < x) × (y ≤ most)) ⌝ }
-{
-    if x <= limit {
-        return false;
-    }
-    y <= most
-}
-
-// What a run of hand-overs leaves: the first job after it, by index, the loads of giver and taker, and whether it is still the giver's
-// turn.
+// What a run of hand-overs leaves: the first job after it, by index, the loads of giver and taker, and whether it is known to be still
+// the giver's turn.
 struct Handed {
     next: usize,
     left: u32,
@@ -94,8 +105,8 @@ struct Handed {
     stays: bool,
 }
 
-// Machine i hands over job b and those after it that stand where b stands and may run on the same machines, while it is its turn. They
-// go to machine j and get height g. All are by index. The loads are left to the caller.
+// Machine i hands over the job first and those after it that stand just so and go where it goes, while it is its turn: to machine j,
+// where they get height g. All are by index. The loads are left to the caller.
 fn hand_alike(
     places: &mut [u8],
     jobs: &mut [u8],
@@ -108,15 +119,16 @@ fn hand_alike(
     low: u8,
     j: usize,
     g: u8,
-    mask: u32,
+    watch: u32,
+    want: u32,
     most: u32,
     first: usize,
 ) -> Handed
     requires { ⌜ ((I : Instance) × (a : ℕ) × (m : ℕ) × (machines : List ℕ) × (levels : List ℕ) × (lifts : ℕ) × (pushes : ℕ)
-        × Aiming I a limit m n (now minutes) (now masks) i low j g mask most first (arrays machines (now jobs) (now places) (now loads) levels lifts pushes)) ⌝ }
+        × Aiming I a limit m n (now minutes) (now masks) i low j g watch want most first (arrays machines (now jobs) (now places) (now loads) levels lifts pushes)) ⌝ }
     requires { ⌜ (n ≤ length (now minutes)) × (n ≤ length (now masks)) × (n ≤ length (now places)) × (n ≤ length (now jobs)) ⌝ }
     ensures { λ r. ⌜ ((I : Instance) (a m : ℕ) (machines levels : List ℕ) (lifts pushes : ℕ)
-        → Aiming I a limit m n (now (minutes .entry)) (now (masks .entry)) i low j g mask most first (arrays machines (now (jobs .entry)) (now (places .entry)) (now (loads .entry)) levels lifts pushes)
+        → Aiming I a limit m n (now (minutes .entry)) (now (masks .entry)) i low j g watch want most first (arrays machines (now (jobs .entry)) (now (places .entry)) (now (loads .entry)) levels lifts pushes)
         → Onward I a i (r .next) (arrays machines (now (jobs .entry)) (now (places .entry)) (now (loads .entry)) levels lifts pushes)
         (after machines (now (jobs .exit)) (now (places .exit)) (now (loads .entry)) levels lifts pushes i j low g first (r .next) (r .left) (r .load))
         (r .stays)) ⌝ }
@@ -128,14 +140,14 @@ fn hand_alike(
     let mut b = first;
     let mut x = loads[i];
     let mut y = loads[j];
-    while alike(places, jobs, masks, n, b, number, low, mask) {
+    loop {
         let w = weigh(minutes[b], i, j);
         x -= w;
         y += w;
         places[b] = to;
         jobs[b] = g;
         b += 1;
-        if !lasts(x, limit, y, most) {
+        if x <= limit {
             return Handed {
                 next: b,
                 left: x,
@@ -143,12 +155,22 @@ fn hand_alike(
                 stays: false,
             };
         }
-    }
-    Handed {
-        next: b,
-        left: x,
-        load: y,
-        stays: true,
+        if most < y {
+            return Handed {
+                next: b,
+                left: x,
+                load: y,
+                stays: false,
+            };
+        }
+        if !alike(places, jobs, masks, n, b, number, low, watch, want) {
+            return Handed {
+                next: b,
+                left: x,
+                load: y,
+                stays: true,
+            };
+        }
     }
 }
 
@@ -162,8 +184,8 @@ fn below(h: u8) -> usize
     (h - 1) as usize
 }
 
-// Counts after a run of hand-overs, the machine that took the jobs and the first job after them, by index, and whether it is still
-// the giver's turn.
+// Counts after a run of hand-overs, the machine that took the jobs and the first job after them, by index, and whether it is known
+// to be still the giver's turn.
 struct Gave {
     lifts: u32,
     pushes: u32,
@@ -200,11 +222,15 @@ fn give(
         × Moves (now (machines .entry)) (now (places .entry)) (now (jobs .entry)) (now (places .exit)) (now (jobs .exit)) i (r .to) b (r .next) ⌝ }
 {
     let low = jobs[b];
-    let mask = masks[b];
-    let found = least_for(mask, levels, below(low));
-    let j = found.machine - 1;
-    let g = (found.height + 1) as u8;
+    let from = below(low);
+    let found = least_for(masks[b], levels, from);
+    let machine = found.machine;
+    let height = found.height;
+    let j = machine - 1;
+    let g = (height + 1) as u8;
     let top = (2 * m) as u8;
+    let watch = ahead(levels, from, machine, height);
+    let want = with(0, machine);
     let most = most_on(loads[j], machines[j], a, limit, top, i, j);
     let r = hand_alike(
         places,
@@ -218,7 +244,8 @@ fn give(
         low,
         j,
         g,
-        mask,
+        watch,
+        want,
         most,
         b,
     );

@@ -14,10 +14,11 @@ use Rattle.theory.proofs.Lifts.{lifts-bound}
 use Rattle.theory.proofs.Pushes.{pushes-bound}
 use Rattle.arrays.specs.Sets.{LowestIn}
 use Rattle.arrays.proofs.Levels.{levels-leveled}
-use Rattle.trials.specs.Track.{arrays, after, Giving, Aiming, Onward}
+use Rattle.trials.specs.Track.{arrays, Giving, Aiming}
 use Rattle.trials.specs.Near.{Ranged, Moves}
 use Rattle.trials.proofs.Alike.{next-of}
 use Rattle.trials.proofs.Giving.{height-is, job-in, giver-in, reaches, machine-found, lift-bound-small, push-bound-small}
+use Rattle.trials.proofs.Watch.{watched}
 use Rattle.trials.proofs.step.give.Statement.{statement}
 use Rattle.trials.proofs.step.give.Tie as tie
 
@@ -46,7 +47,7 @@ start c = c .before .before .before .before .before .before .before .before .bef
 
 lowest : (c : tie.After-least-for)
     → LowestIn (getD (start c .args .masks .now) (start c .args .b) 0) (start c .args .levels .now) (getD (start c .args .jobs .now) (start c .args .b) 0 - 1) (c .least-for .result .machine) (c .least-for .result .height)
-lowest c = rw (c .before .below .ensures) at (c .least-for .ensures)
+lowest c = rw (c .before .before .below .ensures) at (c .least-for .ensures)
 
 found : (c : tie.After-least-for) → (0 < c .least-for .result .machine) × (c .least-for .result .machine ≤ start c .args .m)
 found c = machine-found (known (start c)) _ _ (lowest c)
@@ -68,20 +69,22 @@ aiming : (c : tie.After-most-on) (I : Instance)
     → Giving I (start (least c) .args .a) (start (least c) .args .limit) (start (least c) .args .m) (start (least c) .args .n) (start (least c) .args .minutes .now) (start (least c) .args .masks .now) (start (least c) .args .i) (start (least c) .args .b)
     (arrays (start (least c) .args .machines .now) (start (least c) .args .jobs .now) (start (least c) .args .places .now) (start (least c) .args .loads .now) (start (least c) .args .levels .now) (start (least c) .args .lifts) (start (least c) .args .pushes))
     → Aiming I (start (least c) .args .a) (start (least c) .args .limit) (start (least c) .args .m) (start (least c) .args .n) (start (least c) .args .minutes .now) (start (least c) .args .masks .now) (start (least c) .args .i)
-    (getD (start (least c) .args .jobs .now) (start (least c) .args .b) 0) (least c .least-for .result .machine - 1) (least c .least-for .result .height + 1) (getD (start (least c) .args .masks .now) (start (least c) .args .b) 0)
-    (c .most-on .result) (start (least c) .args .b)
+    (getD (start (least c) .args .jobs .now) (start (least c) .args .b) 0) (least c .least-for .result .machine - 1) (least c .least-for .result .height + 1)
+    (c .before .before .before .before .ahead .result) (c .before .before .before .with .result) (c .most-on .result) (start (least c) .args .b)
     (arrays (start (least c) .args .machines .now) (start (least c) .args .jobs .now) (start (least c) .args .places .now) (start (least c) .args .loads .now) (start (least c) .args .levels .now) (start (least c) .args .lifts) (start (least c) .args .pushes))
-aiming c I v =
-    record {
-      giving = v;
-      stands = refl;
-      word = refl;
-      height = least c .least-for .result .height;
-      lowest = numbered (found (least c) .0) (lowest (least c));
-      lands = refl;
-      rests = c .most-on .ensures .0;
-      yields = c .most-on .ensures .1;
-    }
+aiming c I v = record {
+  giving = v;
+  stands = refl;
+  height = least c .least-for .result .height;
+  lowest = numbered (found (least c) .0) (lowest (least c));
+  alike = watched (start (least c) .args .levels .now) (getD (start (least c) .args .jobs .now) (start (least c) .args .b) 0 - 1) (least c .least-for .result .height)
+      (getD (start (least c) .args .masks .now) (start (least c) .args .b) 0) (c .before .before .before .before .ahead .result) (c .before .before .before .with .result)
+      (least c .least-for .result .machine) (lowest (least c)) (found (least c) .0) (omega (arith, found (least c), few (start (least c))))
+      (rw (least c .before .before .below .ensures) at (c .before .before .before .before .ahead .ensures)) (c .before .before .before .with .ensures);
+  lands = refl;
+  rests = c .most-on .ensures .0;
+  yields = c .most-on .ensures .1;
+}
 
 -- the height of the machine that takes them
 stands-at : (c : tie.After-least-for) → c .least-for .result .height ≡ getD (start c .args .machines .now) (c .least-for .result .machine - 1) 0
@@ -129,36 +132,42 @@ raised c = ap (λ (r : ℕ). r * (ran c .hand-alike .result .next - first (ran c
 slice-read-low : tie.Need-slice-read-low
 slice-read-low c = omega (arith, job (c .before .before .before .before .before .before .before .before), (c .before .before .before .before .before .before .before .before) .pre .1 .3)
 
-mul-mask : tie.Need-mul-mask
-mul-mask c = omega (arith, job (c .before .before .before .before .before .before .before .before))
-
-shared-slice-read-mask : tie.Need-shared-slice-read-mask
-shared-slice-read-mask c = omega (arith, job (c .before .before .before .before .before .before .before .before .before), (c .before .before .before .before .before .before .before .before .before) .pre .1 .1)
-
 below-requires : tie.Need-below-requires
 below-requires c κs = search needs
+
+mul-least-for : tie.Need-mul-least-for
+mul-least-for c = omega (arith, job (c .before .before .before .before .before .before .before .before .before))
+
+shared-slice-read-least-for : tie.Need-shared-slice-read-least-for
+shared-slice-read-least-for c = omega (arith, job (c .before .before .before .before .before .before .before .before .before .before), (c .before .before .before .before .before .before .before .before .before .before) .pre .1 .1)
 
 least-for-requires : tie.Need-least-for-requires
 least-for-requires c κs = (
   known (c .before .before .before .before .before .before .before .before .before .before) .setup .reads .words (suc (c .before .before .before .before .before .before .before .before .before .before .args .b)),
   levels-leveled (known (c .before .before .before .before .before .before .before .before .before .before) .turn .tracks .levels),
-  rw (c .below .ensures) (reaches (known (c .before .before .before .before .before .before .before .before .before .before))),
+  rw (c .before .below .ensures) (reaches (known (c .before .before .before .before .before .before .before .before .before .before))),
 )
 
 sub-j : tie.Need-sub-j
-sub-j c = found (c .before) .0
+sub-j c = found c .0
 
 add-g : tie.Need-add-g
-add-g c = search needs
+add-g c = omega (arith, lowest c .high)
 
 cast-g : tie.Need-cast-g
-cast-g c = search needs
+cast-g c = omega (arith, lowest c .high)
 
 mul-top : tie.Need-mul-top
-mul-top c = omega (arith, few (c .before .before .before .before .before .before .before .before .before .before .before .before .before))
+mul-top c = omega (arith, few (start c))
 
 cast-top : tie.Need-cast-top
-cast-top c = omega (arith, few (c .before .before .before .before .before .before .before .before .before .before .before .before .before))
+cast-top c = omega (arith, few (start c))
+
+ahead-requires : tie.Need-ahead-requires
+ahead-requires c κs = (levels-leveled (known (start c) .turn .tracks .levels), c .least-for .ensures .low, lowest c .high, omega (arith, found c, few (start c)))
+
+with-requires : tie.Need-with-requires
+with-requires c κs = (omega arith, found (c .before) .0, omega (arith, found (c .before), few (start (c .before))))
 
 mul-most-on : tie.Need-mul-most-on
 mul-most-on c = omega (arith, taker (c .before .before))
@@ -201,17 +210,17 @@ cast-count c = omega (arith, c .before .before .before .before .hand-alike .ensu
 rise-requires : tie.Need-rise-requires
 rise-requires c κs = search needs
 
-mul-t41 : tie.Need-mul-t41
-mul-t41 c = omega (arith, raised c, counts (ran c))
+mul-t45 : tie.Need-mul-t45
+mul-t45 c = omega (arith, raised c, counts (ran c))
 
-add-t42 : tie.Need-add-t42
-add-t42 c = omega (arith, raised c, counts (ran c))
+add-t46 : tie.Need-add-t46
+add-t46 c = omega (arith, raised c, counts (ran c))
 
-mul-t43 : tie.Need-mul-t43
-mul-t43 c = omega (arith, counts (ran c))
+mul-t47 : tie.Need-mul-t47
+mul-t47 c = omega (arith, counts (ran c))
 
-add-t44 : tie.Need-add-t44
-add-t44 c = omega (arith, counts (ran c))
+add-t48 : tie.Need-add-t48
+add-t48 c = omega (arith, counts (ran c))
 
 same-length : tie.Need-same-length
 same-length c = search needs
@@ -237,15 +246,17 @@ give-spec =
     tie.close
     (tie.spec
     slice-read-low
-    mul-mask
-    shared-slice-read-mask
     below-requires
+    mul-least-for
+    shared-slice-read-least-for
     least-for-requires
     sub-j
     add-g
     cast-g
     mul-top
     cast-top
+    ahead-requires
+    with-requires
     mul-most-on
     slice-read-most-on
     shared-slice-read-most-on
@@ -258,10 +269,10 @@ give-spec =
     sub-count
     cast-count
     rise-requires
-    mul-t41
-    add-t42
-    mul-t43
-    add-t44
+    mul-t45
+    add-t46
+    mul-t47
+    add-t48
     same-length
     same-length-2
     same-length-3
