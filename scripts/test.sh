@@ -1,5 +1,5 @@
 #!/usr/bin/env bash
-# Every test of this repository, from nothing: layout, proofs, must-fail edits, programs, and the Rust tests.
+# Every test of this repository, from nothing: layout, documents, proofs, must-fail edits, programs, a host in C, and the Rust tests.
 # It stops at the first failure. Its last line is that of `rt ci`: 'N passed, 0 failed'.
 set -euo pipefail
 cd "$(dirname "$0")/.."
@@ -22,6 +22,7 @@ need() {
 command -v rt >/dev/null 2>&1 || missing "the Rattle kit: its command rt is not on the PATH"
 need cargo cargo
 need rustc rustc
+need gcc gcc
 
 echo "== layout"
 rt fmt --check
@@ -35,6 +36,11 @@ trap 'rm -f "$log"' EXIT
 rt ci 2>&1 | tee "$log"
 verdict=$(tail -n 1 "$log")
 [[ $verdict =~ ^[1-9][0-9]*\ passed,\ 0\ failed$ ]] || missing "rt ci's verdict; its last line was: $verdict"
+
+echo "== the static library, and a host in C"
+rt staticlib listing
+rt staticlib journal
+bash scripts/host.sh
 
 echo "== tests in Rust"
 (cd tests && cargo test --offline --quiet)

@@ -37,7 +37,7 @@ those-few m p = omega (arith, sumTo-bound m (λ i. pick (p i) 1 0) 1 (λ i l u. 
     small true = le-refl 1
     small false = omega arith
 
-group-few : {I : Instance} {g : List ℕ} → IsGroup I g → length g ≤ I .m
+pub group-few : {I : Instance} {g : List ℕ} → IsGroup I g → length g ≤ I .m
 group-few {I} (those p) = omega (arith, those-length (I .m) p, those-few (I .m) p)
 
 floor-few : {I : Instance} {l : ℕ} {g : List ℕ} → Floor I l g → length g ≤ I .m
@@ -63,23 +63,23 @@ pub record Fits (p : Plan) : Type 0 where
 
 module _ (I : Instance) (x : Assignment) (a : Valid I) (b : Permitted I x) (m : I .m ≤ 24) (c : n I ≤ 200)
     (short : (j : ℕ) → minutesOf I j ≤ 1440) (lists : sumTo (n I) (λ j. length (listOf I j)) ≤ 4800) where
-  load-few : (y : Assignment) (i : ℕ) → load I y i ≤ 288000
+  pub load-few : (y : Assignment) (i : ℕ) → load I y i ≤ 288000
   load-few y i = load-small I y i c short
 
-  finish-few : makespan I x ≤ 288000
+  pub finish-few : makespan I x ≤ 288000
   finish-few = makespan-le I x 288000 (λ i l u. load-few x i)
 
   longest-few : longest I ≤ 288000
   longest-few = longest-le I 288000 (λ j l u. omega (arith, short j))
 
-  lifts-few : liftBound I ≤ 11176
+  pub lifts-few : liftBound I ≤ 11176
   unfolding liftBound
   lifts-few =
       let e : I .m * (2 * I .m + 1) ≤ 24 * (2 * I .m + 1) = mul-le-mul-right (2 * I .m + 1) m in
       let f : n I * (2 * I .m + 2) ≤ 200 * (2 * I .m + 2) = mul-le-mul-right (2 * I .m + 2) c in
       omega arith
 
-  pushes-few : pushBound I ≤ 480000
+  pub pushes-few : pushBound I ≤ 480000
   unfolding pushBound
   pushes-few =
       let e : 4 * I .m + 4 ≤ 100 = omega arith in

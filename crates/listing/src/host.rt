@@ -20,7 +20,7 @@ pub struct Hosted {
 }
 
 // A refusal's number in document 01; 0 for none.
-fn code(refusal: Refusal) -> u32
+pub fn code(refusal: Refusal) -> u32
     ensures { λ r. ⌜ r ≡ numberOf refusal ⌝ }
 {
     match refusal {

@@ -6,6 +6,7 @@
 --   Planning           Balance, LowerBound, Plan
 --   Runs               Run
 --   The listing        Listing
+-- Journal, calls and answers as texts, is not in document 01.
 --   Cases              Cases
 -- Fold has the lists by number and the folds over 1 to k that all of them use.
 pub mod Fold
@@ -25,5 +26,6 @@ pub mod LowerBound
 pub mod Plan
 pub mod Run
 pub mod Listing
+pub mod Journal
 pub mod Text
 pub mod Cases

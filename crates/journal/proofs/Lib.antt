@@ -1,0 +1,11 @@
+pub mod Numbers
+pub mod Calls
+pub mod Linewise
+pub mod Entering
+pub mod Said
+pub mod Replies
+pub mod Small
+pub mod Fitting
+pub mod Going
+pub mod Hosting
+pub mod Printing

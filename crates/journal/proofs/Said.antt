@@ -1,0 +1,110 @@
+-- The call of an entry does what the call of its line does: a list of more than 24 numbers is refused, and so are its first 25.
+-- Assumes nothing.
+use Prim.Native.Nat.{ℕ, _≤_, _<_}
+use mathlib.Core.Path.{_≡_, refl, ap, _∙_}
+use mathlib.Core.Bool.{Bool, true, false}
+use mathlib.Core.List.{List}
+use native.Mathlib.Omega.{arith}
+use lib.Dec.{leb}
+use lib.ListN.{length, take}
+use lib.Seq.{take-all, length-take-le}
+use borrow.Author.Tests.{leb-true, leb-false, lt-leb, ne-eqb}
+use Rattle.rules.specs.Fold.{_and_}
+use Rattle.rules.specs.Sheet.{Book, sound, goodInstruments, goodList}
+use Rattle.rules.specs.Edit.{Edit, Edited, add, withdraw, requalify, move, edit}
+use Rattle.rules.specs.Run.{Call, editing, reviewing, trying, planning, answer, next, answerNumbers, editAnswer, editBook}
+use Rattle.theory.proofs.Logic.{byTest, and-right}
+use Rattle.theory.proofs.Sound.{sound-is}
+use Rattle.sheet.specs.Represent.{sheetOf}
+use Rattle.journal.specs.declared.entry.Entry.{Entry}
+use Rattle.journal.specs.Entry.{entryOf}
+use Rattle.journal.specs.Answering.{editSaid, callSaid, madeWith, madeOf, isPlan}
+use Rattle.journal.proofs.Numbers.{row-front}
+
+-- ---- the first 25 of a list
+
+none-and : (a b : Bool) → b ≡ false → a and b ≡ false
+unfolding _and_
+none-and true b e = e
+none-and false b e = refl
+
+long-bad : (m : ℕ) (l : List ℕ) → m < length l → goodList m l ≡ false
+unfolding goodList _and_
+long-bad m l h = none-and (leb 1 (length l)) _ (rw (lt-leb (length l) m h))
+
+few-instruments : (k : Book) → sound k ≡ true → k .m ≤ 24
+unfolding goodInstruments
+few-instruments k v = leb-true _ _ (and-right (leb 1 (k .m)) _ (sound-is k v .instruments))
+
+module _ (k : Book) (v : sound k ≡ true) (l : List ℕ) where
+  -- an edit that looks at its list only through goodList
+  first-few : (f : List ℕ → Edited) → ((d : List ℕ) → goodList (k .m) d ≡ false → goodList (k .m) l ≡ false → f d ≡ f l)
+      → f (take 25 l) ≡ f l
+  first-few f h =
+      byTest (leb (length l) 25)
+      (λ t. ap f (take-all 25 l (leb-true _ _ t)))
+      (λ t. let g = leb-false (length l) 25 t in
+      let m = few-instruments k v in
+      h (take 25 l) (long-bad (k .m) (take 25 l) (omega (arith, length-take-le 25 l (omega arith)))) (long-bad (k .m) l (omega arith)))
+
+  add-first : (t : ℕ) → edit k (add t (take 25 l)) ≡ edit k (add t l)
+  unfolding edit
+  add-first t = first-few (λ d. edit k (add t d)) (λ d p q. rw (p, q))
+
+  requalify-first : (b : ℕ) → edit k (requalify b (take 25 l)) ≡ edit k (requalify b l)
+  unfolding edit
+  requalify-first b = first-few (λ d. edit k (requalify b d)) (λ d p q. rw (p, q))
+
+-- ---- the same made
+
+made-edits : (k : Book) (e f : Edit) → edit k e ≡ edit k f → madeOf k (editing e) ≡ madeOf k (editing f)
+unfolding madeOf answer next
+made-edits k e f q = ap (λ (o : Edited). madeWith (sheetOf (editBook k o)) (answerNumbers (editAnswer o)) (isPlan (editAnswer o))) q
+
+pub made-said : (k : Book) → sound k ≡ true → (c : Call) (n : ℕ) → madeOf k (callSaid (entryOf c n)) ≡ madeOf k c
+unfolding callSaid editSaid
+made-said k v (editing (add t l)) n =
+    made-edits k _ (add t l) (ap (λ (d : List ℕ). edit k (add t d)) (row-front l) ∙ add-first k v l t)
+made-said k v (editing (withdraw b)) n = refl
+made-said k v (editing (requalify b l)) n =
+    made-edits k _ (requalify b l) (ap (λ (d : List ℕ). edit k (requalify b d)) (row-front l) ∙ requalify-first k v l b)
+made-said k v (editing (move b i)) n = refl
+made-said k v reviewing n = refl
+made-said k v (trying a) n = refl
+made-said k v planning n = refl
+
+-- ---- the call by the kind
+
+module _ (e : Entry) where
+  pub edit-add : e .kind ≡ 1 → add (e .a) (take (e .count) (e .list)) ≡ editSaid e
+  unfolding editSaid
+  edit-add p = rw p
+
+  pub edit-withdraw : (e .kind ≡ 1 → ⊥) → e .kind ≡ 2 → withdraw (e .a) ≡ editSaid e
+  unfolding editSaid
+  edit-withdraw p q = rw q
+
+  pub edit-requalify : (e .kind ≡ 1 → ⊥) → (e .kind ≡ 2 → ⊥) → e .kind ≡ 3
+      → requalify (e .a) (take (e .count) (e .list)) ≡ editSaid e
+  unfolding editSaid
+  edit-requalify p q r = rw r
+
+  pub edit-move : (e .kind ≡ 1 → ⊥) → (e .kind ≡ 2 → ⊥) → (e .kind ≡ 3 → ⊥) → move (e .a) (e .b) ≡ editSaid e
+  unfolding editSaid
+  edit-move p q r = rw (ne-eqb (e .kind) 1 p, ne-eqb (e .kind) 2 q, ne-eqb (e .kind) 3 r)
+
+  pub said-review : e .kind ≡ 5 → reviewing ≡ callSaid e
+  unfolding callSaid
+  said-review p = rw p
+
+  pub said-trial : e .kind ≡ 6 → trying (e .a) ≡ callSaid e
+  unfolding callSaid
+  said-trial p = rw p
+
+  pub said-plan : e .kind ≡ 7 → planning ≡ callSaid e
+  unfolding callSaid
+  said-plan p = rw p
+
+  pub said-edit : (e .kind ≡ 5 → ⊥) → (e .kind ≡ 6 → ⊥) → (e .kind ≡ 7 → ⊥) → editing (editSaid e) ≡ callSaid e
+  unfolding callSaid
+  said-edit p q r = rw (ne-eqb (e .kind) 5 p, ne-eqb (e .kind) 6 q, ne-eqb (e .kind) 7 r)

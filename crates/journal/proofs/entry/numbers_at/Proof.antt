@@ -1,0 +1,111 @@
+-- The invariant: k of the numbers are read, and what is left goes on from them as the rules do.
+-- Assumes nothing.
+use Prim.Native.Nat.{ℕ, _-_}
+use mathlib.Core.Path.{refl, ap, _∙_}
+use mathlib.Core.List.{List}
+use mathlib.Core.Logic.{⊎-elim}
+use native.Mathlib.Omega.{arith}
+use borrow.Author.Needs.{needs}
+use lib.ListN.{set}
+use Rattle.sheet.proofs.Lines.{number-there, number-missing, number-room}
+use Rattle.journal.proofs.Numbers.{row-fills, row-full, Sofar, none-yet, then-missing, one-more, all-read}
+use Rattle.journal.proofs.entry.numbers_at.Statement.{statement}
+use Rattle.journal.proofs.entry.numbers_at.Tie as tie
+
+abbrev Inv-loop : tie.InvT-loop
+Inv-loop s at count list₀ k₀ next₀ list k next = Sofar s at count list k next
+
+abbrev μ-loop : tie.MeasureT-loop
+μ-loop s at count list₀ k₀ next₀ list k next = count - k
+
+loop-holds : tie.Need-loop-holds Inv-loop μ-loop
+loop-holds c = none-yet _ _ _ _ refl (c .before .pre)
+
+sub-field-at : tie.Need-sub-field-at Inv-loop μ-loop
+sub-field-at c = search needs
+
+part-field-at-start : tie.Need-part-field-at-start Inv-loop μ-loop
+part-field-at-start c = search needs
+
+part-field-at-end : tie.Need-part-field-at-end Inv-loop μ-loop
+part-field-at-end c = search needs
+
+field-at-requires : tie.Need-field-at-requires Inv-loop μ-loop
+field-at-requires c κs = search needs
+
+enum-known-x : tie.Need-enum-known-x Inv-loop μ-loop
+enum-known-x c = search needs
+
+enum-told : tie.Need-enum-told Inv-loop μ-loop
+enum-told c = search needs
+
+none-requires : tie.Need-none-requires Inv-loop μ-loop
+none-requires c κs = search needs
+
+returns : tie.Need-returns Inv-loop μ-loop
+returns c =
+    let s = c .before .before .before .before .before .before .before .before .args .s .now in
+    let next = c .before .before .before .before .before .before .loop .next in
+    c .none .ensures
+    ∙ then-missing s _ _ _ _ next (c .before .before .before .before .before .before .loop .inv) (c .before .before .before .before .before .loop-test .taken) (number-missing s next _ (c .before .before .before .field-at .ensures) (c .before .enum-told .given .1))
+
+mul-list : tie.Need-mul-list Inv-loop μ-loop
+mul-list c = search needs
+
+array-write-list : tie.Need-array-write-list Inv-loop μ-loop
+array-write-list c = search needs
+
+add-next : tie.Need-add-next Inv-loop μ-loop
+add-next c =
+    omega (arith, number-room (c .before .before .before .before .before .before .before .before .before .args .s .now) (c .before .before .before .before .before .before .before .loop .next) _ (c .before .before .before .before .field-at .ensures) _ (c .before .before .x .given .1) (c .before .before .before .before .before .before .before .loop .inv .room))
+
+add-k : tie.Need-add-k Inv-loop μ-loop
+add-k c = search needs
+
+loop-less : tie.Need-loop-less Inv-loop μ-loop
+loop-less c = search needs
+
+loop-again : tie.Need-loop-again Inv-loop μ-loop
+loop-again c =
+    let s = c .before .before .before .before .before .before .before .before .before .args .s .now in
+    let next = c .before .before .before .before .before .before .before .loop .next in
+    let k = c .before .before .before .before .before .before .before .loop .k in
+    let f = c .before .before .before .before .before .before .before .loop .inv in
+    let x = c .before .before .x .given .0 .0 in
+    one-more s _ _ (c .before .before .before .before .before .before .before .loop .list) k next f x _ (c .before .before .before .before .before .before .loop-test .taken)
+    (number-there s next _ (c .before .before .before .before .field-at .ensures) x (c .before .before .x .given .1))
+    (number-room s next _ (c .before .before .before .before .field-at .ensures) x (c .before .before .x .given .1) (f .room))
+    (⊎-elim
+    (λ w. w .1 ∙ ap (λ (l : List ℕ). set l k x) (f .same) ∙ row-fills (f .numbers) k x (f .count) (w .0 .taken))
+    (λ w. w .1 ∙ f .same ∙ row-full (f .numbers) k x (f .count) (w .0 .left))
+    (c .if1 .came))
+
+kept-of-requires : tie.Need-kept-of-requires Inv-loop μ-loop
+kept-of-requires c κs = search needs
+
+returns-2 : tie.Need-returns-2 Inv-loop μ-loop
+returns-2 c = all-read _ _ _ _ _ _ (c .before .before .loop .inv) _ (c .before .loop-test .left) (c .kept-of .ensures)
+
+pub numbers-at-spec : {M : Type 1} → statement M
+numbers-at-spec =
+    tie.close
+    (tie.spec
+    Inv-loop
+    μ-loop
+    loop-holds
+    sub-field-at
+    part-field-at-start
+    part-field-at-end
+    field-at-requires
+    enum-known-x
+    enum-told
+    none-requires
+    returns
+    mul-list
+    array-write-list
+    add-next
+    add-k
+    loop-less
+    loop-again
+    kept-of-requires
+    returns-2)

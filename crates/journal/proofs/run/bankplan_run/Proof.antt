@@ -1,0 +1,47 @@
+-- The sheet that reading hands on is sound, and a refusal is the rules'.
+-- Assumes nothing.
+use mathlib.Core.Path.{_∙_}
+use Rattle.sheet.proofs.Given.{some-refusal}
+use Rattle.sheet.proofs.Accepted.{Accepted, is-accepted, is-refused}
+use Rattle.journal.proofs.Hosting.{run-refused, run-ran}
+use borrow.Author.Needs.{needs}
+use Rattle.journal.proofs.run.bankplan_run.Statement.{statement}
+use Rattle.journal.proofs.run.bankplan_run.Tie as tie
+
+-- what was read
+taken : (c : tie.After-enum-told) → Accepted (c .before .before .before .before .before .before .args .sheet .now) (c .before .before .read .result)
+taken c = is-accepted _ _ (c .before .before .read .ensures) (c .enum-told .given .1)
+
+read-requires : tie.Need-read-requires
+read-requires c κs = search needs
+
+enum-told : tie.Need-enum-told
+enum-told c = search needs
+
+code-requires : tie.Need-code-requires
+code-requires c κs = search needs
+
+returns : tie.Need-returns
+returns c =
+    run-refused _ (c .before .before .before .before .before .before .args .journal .now) _ _ _ (is-refused (c .before .before .before .before .before .before .args .sheet .now) _ (c .before .before .read .ensures) (some-refusal _ (c .before .match .keys2))) (c .code .ensures)
+
+run-on-requires : tie.Need-run-on-requires
+run-on-requires c κs = taken (c .before .before) .sound
+
+same-length : tie.Need-same-length
+same-length c = search needs
+
+returns-2 : tie.Need-returns-2
+returns-2 c = c .before .before .run-on .ensures ∙ run-ran _ (c .before .before .before .before .before .before .before .before .before .before .before .args .journal .now) _ _ (taken (c .before .before .before .before .before) .book)
+
+pub bankplan-run-spec : {M : Type 1} → statement M
+bankplan-run-spec =
+    tie.close
+    (tie.spec
+    read-requires
+    enum-told
+    code-requires
+    returns
+    run-on-requires
+    same-length
+    returns-2)

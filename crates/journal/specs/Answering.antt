@@ -1,0 +1,89 @@
+-- The call of a line, and its answer as the code has it: the sheet after the call, and the answer's numbers in 204 entries.
+-- Assumes nothing.
+use Prim.Native.Nat.{ℕ, _+_, _*_, _<_, _≤_, _^_}
+use mathlib.Core.Path.{_≡_}
+use mathlib.Core.Bool.{Bool, true, false}
+use mathlib.Core.List.{List, [], _∷_, _++_}
+use lib.Dec.{eqb, ltb}
+use lib.ListN.{length, getD, take, drop}
+use Rattle.rules.specs.Fold.{pick, every}
+use Rattle.rules.specs.Sheet.{Book}
+use Rattle.rules.specs.Render.{columns, fields, line}
+use Rattle.rules.specs.Edit.{Edit, add, withdraw, requalify, move}
+use Rattle.rules.specs.Run.{Call, editing, reviewing, trying, planning, Answer, refused, done, reviewed, tried, planned, answer, next, answerNumbers}
+use Rattle.sheet.specs.declared.Sheet.{Sheet}
+use Rattle.sheet.specs.Represent.{padded, sheetOf}
+use Rattle.sheet.specs.Answers.{numberOf}
+use Rattle.planner.specs.declared.Tried.{Tried}
+use Rattle.planner.specs.declared.Planned.{Planned}
+use Rattle.planner.specs.declared.review.Reviewed.{Reviewed}
+use Rattle.journal.specs.declared.entry.Entry.{Entry}
+use Rattle.journal.specs.declared.call.Made.{Made}
+
+-- ---- the call of an entry; of a list, the numbers that were kept
+
+unfoldable pub editSaid : Entry → Edit
+editSaid e =
+    pick (eqb (e .kind) 1) (add (e .a) (take (e .count) (e .list)))
+    (pick (eqb (e .kind) 2) (withdraw (e .a))
+    (pick (eqb (e .kind) 3) (requalify (e .a) (take (e .count) (e .list)))
+    (move (e .a) (e .b))))
+
+unfoldable pub callSaid : Entry → Call
+callSaid e =
+    pick (eqb (e .kind) 5) reviewing
+    (pick (eqb (e .kind) 6) (trying (e .a))
+    (pick (eqb (e .kind) 7) planning
+    (editing (editSaid e))))
+
+-- ---- the answer's numbers in an array, zeros after them
+
+abbrev pub madeWith : Sheet → List ℕ → Bool → Made
+madeWith s l p = record { sheet = s; size = length l; numbers = padded 204 l; plan = p }
+
+abbrev pub isPlan : Answer → Bool
+isPlan (refused e) = false
+isPlan done = false
+isPlan (reviewed v) = false
+isPlan (tried t) = false
+isPlan (planned p) = true
+
+-- what a call on the book makes
+unfoldable pub madeOf : Book → Call → Made
+madeOf k c = madeWith (sheetOf (next k c)) (answerNumbers (answer k c)) (isPlan (answer k c))
+
+-- of each reply
+abbrev pub reviewNumbers : ℕ → Reviewed → List ℕ
+reviewNumbers m r = 0 ∷ r .makespan ∷ r .improving ∷ take m (r .loads)
+
+abbrev pub trialNumbers : ℕ → Tried → List ℕ
+trialNumbers n r =
+    pick (eqb (numberOf (r .refusal)) 0)
+    (0 ∷ pick (r .passed) (1 ∷ r .lifts ∷ r .pushes ∷ take n (r .places)) (0 ∷ r .lifts ∷ r .pushes ∷ take (r .size) (r .group)))
+    (numberOf (r .refusal) ∷ [])
+
+abbrev pub plannedNumbers : Planned → List ℕ
+plannedNumbers r =
+    0 ∷ r .makespan ∷ r .bound ∷ r .level ∷ r .lifts ∷ r .pushes ∷ r .moves ∷ r .size ∷ take (r .size) (r .group)
+
+-- ---- the answer's line: six columns for each number, but twelve for number 6 of a plan
+
+abbrev pub lineOf : Bool → List ℕ → List ℕ
+lineOf false l = line l
+lineOf true l = fields (take 6 l) ++ columns 12 (getD l 6 0) ++ line (drop 7 l)
+
+abbrev pub lineLength : Bool → ℕ → ℕ
+lineLength false size = 6 * size + 1
+lineLength true size = 6 * size + 7
+
+abbrev pub Small : List ℕ → Type 0
+Small l = every (λ (x : ℕ). ltb x 1000000) l ≡ true
+
+-- each number fits its columns, and all fit the array
+pub record Fitting (p : Bool) (l : List ℕ) : Type 0 where
+  pub few : length l ≤ 204
+  pub plain : p ≡ false → Small l
+  pub start : p ≡ true → Small (take 6 l)
+  pub moves : p ≡ true → getD l 6 0 < 10 ^ 12
+  pub rest : p ≡ true → Small (drop 7 l)
+  pub least : p ≡ true → 8 ≤ length l
