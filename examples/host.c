@@ -1,0 +1,171 @@
+/*
+ * A host in C: plans the sheet in a file and prints the listing, then runs the journal in another file on the same sheet and
+ * prints, after an empty line, the answers.
+ *
+ *   host SHEET JOURNAL
+ *
+ * It ends with 0 where all is printed, with 1 where something is refused or cannot be read or written, and with 2 where it is
+ * called in another way.
+ */
+#include <errno.h>
+#include <stdint.h>
+#include <stdio.h>
+#include <stdlib.h>
+#include <string.h>
+
+#include "bankplan.h"
+
+struct bytes {
+    uint8_t *at; /* never null once made, also where there is no byte */
+    size_t length;
+};
+
+static const char *words(uint32_t refusal)
+{
+    switch (refusal) {
+    case BANKPLAN_MALFORMED: return "not of a sheet's form";
+    case BANKPLAN_BAD_SIZE: return "number of instruments or batches out of range";
+    case BANKPLAN_BAD_LENGTH: return "length out of range";
+    case BANKPLAN_BAD_LIST: return "bad list of qualified instruments";
+    case BANKPLAN_BAD_PLACE: return "place not in the list";
+    case BANKPLAN_BUFFER_SHORT: return "buffer too short";
+    case BANKPLAN_BAD_JOURNAL: return "not of a journal's form";
+    default: return "unknown refusal";
+    }
+}
+
+static void say_refusal(const char *name, uint32_t refusal, size_t line)
+{
+    fprintf(stderr, "host: %s: line %zu: refusal %lu, %s\n", name, line, (unsigned long)refusal, words(refusal));
+}
+
+/* Twice the room for a buffer, or 0 where there is none; the buffer is then as it was. */
+static int grow(uint8_t **buffer, size_t *room)
+{
+    uint8_t *larger;
+
+    if (*room > SIZE_MAX / 2)
+        return 0;
+    larger = realloc(*buffer, *room * 2);
+    if (larger == NULL)
+        return 0;
+    *buffer = larger;
+    *room *= 2;
+    return 1;
+}
+
+/* The whole file, for the caller to free; 0 and a message where that fails. */
+static int read_file(const char *name, struct bytes *file)
+{
+    size_t room = 4096;
+    size_t length = 0;
+    uint8_t *at;
+    FILE *from;
+
+    from = fopen(name, "rb");
+    if (from == NULL) {
+        fprintf(stderr, "host: %s: %s\n", name, strerror(errno));
+        return 0;
+    }
+    at = malloc(room);
+    if (at == NULL)
+        goto no_memory;
+    for (;;) {
+        length += fread(at + length, 1, room - length, from);
+        if (length < room)
+            break;
+        if (!grow(&at, &room))
+            goto no_memory;
+    }
+    if (ferror(from)) {
+        fprintf(stderr, "host: %s: %s\n", name, strerror(errno));
+        free(at);
+        fclose(from);
+        return 0;
+    }
+    fclose(from);
+    file->at = at;
+    file->length = length;
+    return 1;
+
+no_memory:
+    fprintf(stderr, "host: %s: no memory\n", name);
+    free(at);
+    fclose(from);
+    return 0;
+}
+
+static int print(const uint8_t *text, size_t length)
+{
+    if (fwrite(text, 1, length, stdout) == length)
+        return 1;
+    fprintf(stderr, "host: standard output: %s\n", strerror(errno));
+    return 0;
+}
+
+/* Plans the sheet and prints its listing. Every listing fits this buffer. */
+static int plan(const char *name, const struct bytes *sheet)
+{
+    uint8_t listing[BANKPLAN_LARGEST_LISTING];
+    bankplan_planned planned;
+
+    planned = bankplan_plan(sheet->at, sheet->length, listing, sizeof listing);
+    if (planned.refusal != BANKPLAN_NO_REFUSAL) {
+        say_refusal(name, planned.refusal, planned.line);
+        return 0;
+    }
+    return print(listing, planned.length);
+}
+
+/* Runs the journal and prints the answers. Starts with a small buffer and takes a larger one as long as the answers do not fit. */
+static int run(const char *sheet_name, const struct bytes *sheet, const char *journal_name, const struct bytes *journal)
+{
+    size_t room = 256;
+    uint8_t *answers = malloc(room);
+    bankplan_ran ran;
+    int good = 0;
+
+    if (answers == NULL) {
+        fprintf(stderr, "host: no memory\n");
+        return 0;
+    }
+    for (;;) {
+        ran = bankplan_run(sheet->at, sheet->length, journal->at, journal->length, answers, room);
+        if (ran.refusal != BANKPLAN_BUFFER_SHORT)
+            break;
+        if (!grow(&answers, &room)) {
+            fprintf(stderr, "host: no memory for the answers\n");
+            free(answers);
+            return 0;
+        }
+    }
+    if (ran.refusal == BANKPLAN_NO_REFUSAL)
+        good = print(answers, ran.length);
+    else if (ran.refusal == BANKPLAN_BAD_JOURNAL)
+        say_refusal(journal_name, ran.refusal, ran.line);
+    else
+        say_refusal(sheet_name, ran.refusal, ran.line);
+    free(answers);
+    return good;
+}
+
+int main(int argc, char **argv)
+{
+    struct bytes sheet = {NULL, 0};
+    struct bytes journal = {NULL, 0};
+    int good;
+
+    if (argc != 3) {
+        fprintf(stderr, "usage: host SHEET JOURNAL\n");
+        return 2;
+    }
+    good = read_file(argv[1], &sheet) && read_file(argv[2], &journal) && plan(argv[1], &sheet) &&
+           print((const uint8_t *)"\n", 1) && run(argv[1], &sheet, argv[2], &journal);
+    free(sheet.at);
+    free(journal.at);
+    if (fclose(stdout) != 0) {
+        fprintf(stderr, "host: standard output: %s\n", strerror(errno));
+        good = 0;
+    }
+    return good ? EXIT_SUCCESS : EXIT_FAILURE;
+}

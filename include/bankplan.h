@@ -1,0 +1,126 @@
+/*
+ * The bank queue planner for hosts in C and C++ (Linux, x86-64).
+ *
+ * Two calls. bankplan_plan reads a sheet, plans it and writes the listing. bankplan_run reads a sheet, makes a list of calls on it, one
+ * after the other, and writes their answers. Both take any bytes and any lengths, and answer a refusal where something is wrong.
+ *
+ * What a host owes on each call:
+ *   - Every pointer is valid for its length: that many bytes may be read, or, in the lent buffer (listing, answers), written.
+ *   - No pointer is null, not even beside a length of 0. Any valid pointer will do there.
+ *   - The lent buffer overlaps neither the sheet nor the journal, and no other thread uses it until the call returns. Nothing
+ *     writes to the sheet or the journal meanwhile.
+ *   - The thread has 128 kB of stack left. (Calls were measured at 75 kB; this is not proved.)
+ *
+ * What the library promises:
+ *   - It reads only the sheet and the journal, and writes only to the lent buffer, at its front. Bytes past the text keep their values.
+ *   - A refusal writes nothing at all.
+ *   - Every call ends. It keeps no pointer and nothing from one call to the next, allocates nothing, opens no file and prints nothing, so
+ *     calls may be made from several threads at once.
+ *   - The text is plain bytes and ends in LF; no zero byte follows it. Its length is in the answer.
+ *
+ * Numbers in a sheet, a journal and every text are decimal, each in six columns with blanks before it; only the settling moves have
+ * twelve columns. Zero is the one digit 0, and no other number starts with 0. Every line ends in one LF.
+ */
+#ifndef BANKPLAN_H
+#define BANKPLAN_H
+
+#include <stddef.h>
+#include <stdint.h>
+
+#ifdef __cplusplus
+extern "C" {
+#endif
+
+/* A sheet's limits. */
+#define BANKPLAN_MOST_INSTRUMENTS 24
+#define BANKPLAN_MOST_BATCHES 200
+#define BANKPLAN_MOST_MINUTES 1440
+
+/* The largest listing in bytes: a buffer of this size never gets BANKPLAN_BUFFER_SHORT from bankplan_plan. */
+#define BANKPLAN_LARGEST_LISTING 3994
+
+/* The longest line of an answer in bytes, its LF included: so many for each line of the journal are always enough for bankplan_run. */
+#define BANKPLAN_LONGEST_ANSWER 1225
+
+/*
+ * Refusals. 1 to 5 are those of a sheet, and come with the line. 3 to 8 are those of a single call of a journal: they stand in its
+ * answers, and the run goes on. 9 and 19 are the host's own.
+ */
+enum bankplan_refusal {
+    BANKPLAN_NO_REFUSAL = 0,
+    BANKPLAN_MALFORMED = 1,    /* the sheet is not of its form, or bytes are missing or left over */
+    BANKPLAN_BAD_SIZE = 2,     /* instruments not 1 to 24, or batches more than 200 */
+    BANKPLAN_BAD_LENGTH = 3,   /* a length that is not 1 to 1440 minutes */
+    BANKPLAN_BAD_LIST = 4,     /* qualified list empty, too long, with an instrument that is not there, or one twice */
+    BANKPLAN_BAD_PLACE = 5,    /* a place that is not in the batch's list */
+    BANKPLAN_NO_BATCH = 6,     /* no batch of that number */
+    BANKPLAN_SHEET_FULL = 7,   /* a batch more than 200 */
+    BANKPLAN_LEVEL_ABOVE = 8,  /* a trial's level above the total minutes */
+    BANKPLAN_BUFFER_SHORT = 9, /* the lent buffer is shorter than the text */
+    BANKPLAN_BAD_JOURNAL = 19  /* the journal is not of its form */
+};
+
+/* What bankplan_plan answers. */
+typedef struct bankplan_planned {
+    uint32_t refusal; /* 0, 1 to 5, or 9 */
+    uint32_t line;    /* the sheet's line of refusals 1 to 5, from 1; otherwise 0 */
+    size_t length;    /* the listing's bytes; 0 on a refusal */
+} bankplan_planned;
+
+/* What bankplan_run answers. */
+typedef struct bankplan_ran {
+    uint32_t refusal; /* 0, 1 to 5, 9 or 19 */
+    size_t line;      /* the sheet's line of refusals 1 to 5, the journal's of 19, both from 1; otherwise 0 */
+    size_t length;    /* the answers' bytes; 0 on a refusal */
+} bankplan_ran;
+
+/*
+ * Plans a sheet, and writes its listing at the front of the lent buffer.
+ *
+ * A sheet: line 1 has the numbers of instruments and of batches. Then each batch has a line: its length in minutes, its place (0: the
+ * first listed instrument), how many instruments are qualified, and those. Nothing follows the last line.
+ *
+ * A listing: line 1 has the finish, the floor that no plan can beat, the level, raises and bumps of the trial kept, and the settling
+ * moves. Line 2 has the size of the group that shows the floor and its instruments, or 0 where no trial failed. Then each batch has a
+ * line: its number, its place and its length.
+ *
+ * The first fault in the sheet decides which of 1 to 5 is answered; 9 comes only for a sheet without a fault.
+ */
+bankplan_planned bankplan_plan(const uint8_t *sheet, size_t sheet_length, uint8_t *listing, size_t listing_length);
+
+/*
+ * Makes a journal's calls on a sheet, each on the sheet that the one before it left, and writes their answers at the front of the lent
+ * buffer. The sheet's bytes do not change: a run starts anew from them every time.
+ *
+ * A journal has a line for each call, with the call's kind and then its numbers. It may be empty.
+ *
+ *   1 LENGTH COUNT INSTRUMENT..   add a batch, placed on the first listed instrument
+ *   2 BATCH                       withdraw a batch; later batches move down by one
+ *   3 BATCH COUNT INSTRUMENT..    requalify a batch; its place stays if it is listed, otherwise it is the first listed
+ *   4 BATCH INSTRUMENT            move a batch
+ *   5                             review
+ *   6 LEVEL                       a single trial; the sheet stays as it is
+ *   7                             plan; the sheet gets the new places
+ *
+ * Any number that six columns hold is of the form: the call itself refuses a wrong one.
+ *
+ * The answers have a line for each call, with the refusal first, 0 for none. A refused call has nothing more and changes nothing.
+ *
+ *   1 to 4   0
+ *   5        0 FINISH GAINS LOAD..                  the lowest batch that gains, 0 where the plan is settled; every instrument's load
+ *   6        0 1 RAISES BUMPS PLACE..               a pass: every batch's place
+ *            0 0 RAISES BUMPS INSTRUMENT..          a failure: the group, ascending
+ *   7        0 FINISH FLOOR LEVEL RAISES BUMPS MOVES SIZE INSTRUMENT..
+ *                                                   as lines 1 and 2 of a listing, on one line; MOVES has twelve columns
+ *
+ * The order of refusals: 1 to 5 for the sheet, then 19 for the journal, then 9. A journal is judged whole before its first call is made. On
+ * 9, call again with a larger buffer: the answers are the same.
+ */
+bankplan_ran bankplan_run(const uint8_t *sheet, size_t sheet_length, const uint8_t *journal, size_t journal_length,
+                          uint8_t *answers, size_t answers_length);
+
+#ifdef __cplusplus
+}
+#endif
+
+#endif

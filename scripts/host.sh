@@ -1,0 +1,43 @@
+#!/usr/bin/env bash
+# The static library from C: builds examples/host.c and tests/c/boundary.c against it in a temporary folder, runs the one on the stored
+# files and on bad ones, and the other. Needs gcc, and target/staticlib with what `rt staticlib journal` and `rt staticlib listing` write.
+set -euo pipefail
+cd "$(dirname "$0")/.."
+
+fail() {
+    echo "host: $1" >&2
+    exit 1
+}
+
+command -v gcc >/dev/null 2>&1 || fail "the command gcc is missing"
+bash scripts/library.sh
+
+work=$(mktemp -d)
+trap 'rm -rf "$work"' EXIT
+for source in examples/host.c tests/c/boundary.c; do
+    gcc -std=c11 -O2 -Wall -Wextra -Werror -Iinclude -o "$work/$(basename "$source" .c)" "$source" target/staticlib/libbankplan.a
+done
+
+"$work/host" examples/sheet.txt examples/journal.txt >"$work/out" || fail "the example did not end well"
+diff examples/expected.txt "$work/out" >&2 || fail "the example prints something else than examples/expected.txt"
+
+# refused TEXT WORDS..: the example on these files ends with 1, and TEXT is all that it says
+refused() {
+    local said=$1 status=0
+    shift
+    "$work/host" "$@" >"$work/out" 2>"$work/said" || status=$?
+    [ "$status" = 1 ] || fail "the example on $* ended with $status"
+    [ "$(cat "$work/said")" = "$said" ] || fail "the example on $* said: $(cat "$work/said")"
+}
+
+cd "$work"
+top=$OLDPWD
+sed '3s/20/ 0/' "$top/examples/sheet.txt" >sheet
+sed '4s/$/ /' "$top/examples/journal.txt" >journal
+refused "host: sheet: line 3: refusal 3, length out of range" sheet "$top/examples/journal.txt"
+[ ! -s out ] || fail "the example prints something for a refused sheet"
+refused "host: journal: line 4: refusal 19, not of a journal's form" "$top/examples/sheet.txt" journal
+refused "host: none: No such file or directory" none journal
+
+./boundary || fail "the calls are not as they should be at their edges"
+echo "host: the example's output is as stored, and the calls are as they should be at their edges"

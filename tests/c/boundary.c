@@ -1,0 +1,149 @@
+/*
+ * The two calls at their edges, from C: refused sheets, malformed journals, buffers that are too short, that just fit and that are
+ * longer, and the largest texts. Ends with 0 where all is as it should be; otherwise says each line that is not, and ends with 1.
+ */
+#include <stdint.h>
+#include <stdio.h>
+#include <string.h>
+
+#include "bankplan.h"
+
+_Static_assert(sizeof(bankplan_planned) == 16, "two words of 32 bits and one of 64");
+_Static_assert(sizeof(bankplan_ran) == 24, "three words of 64 bits, the first half used");
+
+#define ROOM 8192
+#define UNTOUCHED 0xA5
+
+static uint8_t buffer[ROOM];
+static int faults;
+
+#define CHECK(fact) check(__LINE__, #fact, (fact))
+
+static void check(int line, const char *fact, int holds)
+{
+    if (!holds) {
+        fprintf(stderr, "boundary.c:%d: not so: %s\n", line, fact);
+        faults++;
+    }
+}
+
+/* The buffer has the text, and past it nothing was written. */
+static int holds(const char *text)
+{
+    size_t length = strlen(text);
+    size_t i;
+
+    if (memcmp(buffer, text, length) != 0)
+        return 0;
+    for (i = length; i < ROOM; i++)
+        if (buffer[i] != UNTOUCHED)
+            return 0;
+    return 1;
+}
+
+static bankplan_planned plan(const char *sheet, size_t room)
+{
+    memset(buffer, UNTOUCHED, ROOM);
+    return bankplan_plan((const uint8_t *)sheet, strlen(sheet), buffer, room);
+}
+
+static bankplan_ran run(const char *sheet, const char *journal, size_t room)
+{
+    memset(buffer, UNTOUCHED, ROOM);
+    return bankplan_run((const uint8_t *)sheet, strlen(sheet), (const uint8_t *)journal, strlen(journal), buffer, room);
+}
+
+static int planned(bankplan_planned p, uint32_t refusal, uint32_t line, size_t length)
+{
+    return p.refusal == refusal && p.line == line && p.length == length;
+}
+
+static int ran(bankplan_ran r, uint32_t refusal, size_t line, size_t length)
+{
+    return r.refusal == refusal && r.line == line && r.length == length;
+}
+
+static const char sheet[] = "     2     3\n"
+                            "    30     1     2     1     2\n"
+                            "    20     1     1     1\n"
+                            "    10     1     2     1     2\n";
+static const char listing[] = "    30    30     0     2     2           0\n"
+                              "     0\n"
+                              "     1     2    30\n"
+                              "     2     1    20\n"
+                              "     3     1    10\n";
+static const char too_long[] = "     1     1\n"
+                               "  1441     0     1     1\n";
+static const char journal[] = "     4     3     2\n"
+                              "     4     9     2\n"
+                              "     5\n";
+static const char answers[] = "     0\n"
+                              "     6\n"
+                              "     0    50     1    50    10\n";
+
+static void sheets(void)
+{
+    CHECK(planned(plan(sheet, ROOM), 0, 0, strlen(listing)) && holds(listing));
+    CHECK(planned(plan(too_long, ROOM), BANKPLAN_BAD_LENGTH, 2, 0) && holds(""));
+    CHECK(planned(plan("", ROOM), BANKPLAN_MALFORMED, 1, 0) && holds(""));
+    CHECK(planned(plan("     2     1\n", ROOM), BANKPLAN_MALFORMED, 2, 0) && holds(""));
+    CHECK(planned(plan("    25     0\n", ROOM), BANKPLAN_BAD_SIZE, 1, 0) && holds(""));
+    CHECK(planned(plan("     2     1\n    10     0     2     1     1\n", ROOM), BANKPLAN_BAD_LIST, 2, 0) && holds(""));
+    CHECK(planned(plan("     2     1\n    10     2     1     1\n", ROOM), BANKPLAN_BAD_PLACE, 2, 0) && holds(""));
+    /* a sheet's fault comes before a short buffer */
+    CHECK(planned(plan(too_long, 0), BANKPLAN_BAD_LENGTH, 2, 0) && holds(""));
+}
+
+static void short_buffers(void)
+{
+    size_t room;
+
+    for (room = 0; room < strlen(listing); room++)
+        CHECK(planned(plan(sheet, room), BANKPLAN_BUFFER_SHORT, 0, 0) && holds(""));
+    CHECK(planned(plan(sheet, strlen(listing)), 0, 0, strlen(listing)) && holds(listing));
+    for (room = 0; room < strlen(answers); room++)
+        CHECK(ran(run(sheet, journal, room), BANKPLAN_BUFFER_SHORT, 0, 0) && holds(""));
+    CHECK(ran(run(sheet, journal, strlen(answers)), 0, 0, strlen(answers)) && holds(answers));
+}
+
+static void journals(void)
+{
+    CHECK(ran(run(sheet, journal, ROOM), 0, 0, strlen(answers)) && holds(answers));
+    CHECK(ran(run(sheet, "", 0), 0, 0, 0) && holds(""));
+    CHECK(ran(run(sheet, "     5\n     7\n     8\n", ROOM), BANKPLAN_BAD_JOURNAL, 3, 0) && holds(""));
+    CHECK(ran(run(sheet, "     5\n     7", ROOM), BANKPLAN_BAD_JOURNAL, 2, 0) && holds(""));
+    CHECK(ran(run(sheet, "     5     0\n", ROOM), BANKPLAN_BAD_JOURNAL, 1, 0) && holds(""));
+    CHECK(ran(run(sheet, "     1    10     2     1\n", ROOM), BANKPLAN_BAD_JOURNAL, 1, 0) && holds(""));
+    /* a sheet's fault comes before a journal's, and that before a short buffer */
+    CHECK(ran(run(too_long, "\n", ROOM), BANKPLAN_BAD_LENGTH, 2, 0) && holds(""));
+    CHECK(ran(run(sheet, "\n", 0), BANKPLAN_BAD_JOURNAL, 1, 0) && holds(""));
+}
+
+/* 200 batches that any of 24 instruments may run: the largest listing, and a trial's answer with 200 places, which is the longest. */
+static void largest(void)
+{
+    static char full[BANKPLAN_MOST_BATCHES * 164 + 14];
+    char *to = full;
+    int batch, instrument;
+
+    to += sprintf(to, "%6d%6d\n", BANKPLAN_MOST_INSTRUMENTS, BANKPLAN_MOST_BATCHES);
+    for (batch = 1; batch <= BANKPLAN_MOST_BATCHES; batch++) {
+        to += sprintf(to, "%6d%6d%6d", BANKPLAN_MOST_MINUTES, 0, BANKPLAN_MOST_INSTRUMENTS);
+        for (instrument = 1; instrument <= BANKPLAN_MOST_INSTRUMENTS; instrument++)
+            to += sprintf(to, "%6d", instrument);
+        to += sprintf(to, "\n");
+    }
+    CHECK(planned(plan(full, BANKPLAN_LARGEST_LISTING - 1), BANKPLAN_BUFFER_SHORT, 0, 0) && holds(""));
+    CHECK(planned(plan(full, BANKPLAN_LARGEST_LISTING), 0, 0, BANKPLAN_LARGEST_LISTING));
+    CHECK(ran(run(full, "     6288000\n", BANKPLAN_LONGEST_ANSWER - 1), BANKPLAN_BUFFER_SHORT, 0, 0) && holds(""));
+    CHECK(ran(run(full, "     6288000\n", BANKPLAN_LONGEST_ANSWER), 0, 0, BANKPLAN_LONGEST_ANSWER));
+}
+
+int main(void)
+{
+    sheets();
+    short_buffers();
+    journals();
+    largest();
+    return faults == 0 ? 0 : 1;
+}
