@@ -262,7 +262,7 @@ fn give(
     }
 }
 
-// Counts after a machine's turn, and whether another's turn, or the end, has come.
+// Counts after a machine's turn, and whether another's turn, or the end, may have come.
 struct Turned {
     lifts: u32,
     pushes: u32,
@@ -348,7 +348,8 @@ fn risen(h: u8, some: bool) -> u8
     if some { h + 1 } else { h + 2 }
 }
 
-// Whether some job stands level with machine i, by index, on which none stands below it. It is lifted to just above the lowest jobs on it.
+// Machine i, by index, with no job just below it, is lifted to just above the lowest jobs on it: its rows move down by one where some job
+// stands level with it, which is the answer, and by two otherwise.
 fn lift_rows(below: &mut [u64], level: &mut [u64], above: &mut [u64], i: usize) -> bool
     requires { ⌜ (i < 24) × (length (now below) ≡ 96) × (length (now level) ≡ 96) × (length (now above) ≡ 96) ⌝ }
     ensures { λ r. ⌜ Rises (now (below .entry)) (now (level .entry)) (now (above .entry)) (now (below .exit)) (now (level .exit)) (now (above .exit)) i r ⌝ }

@@ -301,17 +301,22 @@ pub fn edits(seed: u64, count: usize) -> Vec<Case> {
     (0..count).map(case).collect()
 }
 
+/// A sheet of any shape, now and then a large or a crowded one.
+fn any_draft(rng: &mut Rng) -> Draft {
+    let shape = match rng.below(16) {
+        0 => CROWDED,
+        1 => gen::LARGE,
+        _ => shape(rng),
+    };
+    gen::draft(rng, shape)
+}
+
 /// Sheets with a review, trials at the ends, at random and about the average
 /// load, and edits in between, after each of which there is more of the same.
 pub fn reviews_and_trials(seed: u64, count: usize) -> Vec<Case> {
     let mut rng = Rng::new(seed);
     let case = |_| {
-        let shape = match rng.below(16) {
-            0 => CROWDED,
-            1 => gen::LARGE,
-            _ => shape(&mut rng),
-        };
-        let draft = gen::draft(&mut rng, shape);
+        let draft = any_draft(&mut rng);
         let mut sheet = draft.sheet();
         let total = sheet.total() as u64;
         let ends = [0, total, total + 1, u32::MAX as u64];
@@ -338,12 +343,7 @@ pub fn reviews_and_trials(seed: u64, count: usize) -> Vec<Case> {
 pub fn runs(seed: u64, count: usize) -> Vec<Case> {
     let mut rng = Rng::new(seed);
     let case = |_| {
-        let shape = match rng.below(16) {
-            0 => CROWDED,
-            1 => gen::LARGE,
-            _ => shape(&mut rng),
-        };
-        let draft = gen::draft(&mut rng, shape);
+        let draft = any_draft(&mut rng);
         let mut sheet = draft.sheet();
         let mut calls = Vec::new();
         for _ in 0..rng.within(1, 16) {

@@ -277,7 +277,8 @@ impl Seen {
         t.steps += steps as u64;
     }
 
-    fn add(&mut self, other: &Seen) {
+    /// Count what another has seen as well.
+    pub fn add(&mut self, other: &Seen) {
         self.cases += other.cases;
         self.sheets += other.sheets;
         self.improving += other.improving;

@@ -97,7 +97,16 @@ fn runs() {
     for kind in 1..=7 {
         assert!(seen.calls[kind][0] >= 5_000, "calls of kind {kind}");
     }
-    for (kind, refusal) in [(1, 3), (1, 4), (2, 6), (3, 4), (3, 6), (4, 5), (4, 6), (6, 8)] {
+    for (kind, refusal) in [
+        (1, 3),
+        (1, 4),
+        (2, 6),
+        (3, 4),
+        (3, 6),
+        (4, 5),
+        (4, 6),
+        (6, 8),
+    ] {
         assert!(seen.calls[kind][refusal] >= 100, "{refusal} of kind {kind}");
     }
     assert!(seen.grouped >= 10_000 && seen.ungrouped >= 1_000);

@@ -110,49 +110,71 @@ impl Expected {
     }
 }
 
+/// Memory to lend, watched within the buffer and on either side of it.
+#[derive(Default)]
+pub struct Lent {
+    /// Bytes that are in no text, and differ from their neighbours.
+    clean: Vec<u8>,
+    bytes: Vec<u8>,
+}
+
+impl Lent {
+    /// Lend a buffer of this size; gives what the call returns.
+    pub fn lend<R>(&mut self, size: usize, call: impl FnOnce(&mut [u8]) -> R) -> R {
+        let all = size + 2 * MARGIN;
+        let known = self.clean.len();
+        self.clean
+            .extend((known..all).map(|k| 0x80 | (k * 37 % 128) as u8));
+        self.bytes.clear();
+        self.bytes.extend(&self.clean[..all]);
+        call(&mut self.bytes[MARGIN..MARGIN + size])
+    }
+
+    /// This text is at the front of the buffer last lent, and all other bytes
+    /// are as they were.
+    pub fn holds(&self, text: &[u8]) -> Result<(), String> {
+        let (lent, clean) = (&self.bytes, &self.clean[..self.bytes.len()]);
+        let end = MARGIN + text.len();
+        if lent[..MARGIN] != clean[..MARGIN] {
+            return Err("bytes before the buffer changed".into());
+        }
+        if lent[end..] != clean[end..] {
+            return Err("bytes past the text changed".into());
+        }
+        if lent[MARGIN..end] != *text {
+            return Err(format!(
+                "text:\n{}\nexpected:\n{}",
+                String::from_utf8_lossy(&lent[MARGIN..end]),
+                String::from_utf8_lossy(text)
+            ));
+        }
+        Ok(())
+    }
+}
+
 /// Makes calls of a planner and watches the memory that it lends.
 pub struct Judge<P> {
     planner: P,
-    /// Bytes that are in no listing, and differ from their neighbours.
-    clean: Vec<u8>,
-    lent: Vec<u8>,
+    lent: Lent,
 }
 
 impl<P: Fn(&[u8], &mut [u8]) -> Hosted> Judge<P> {
     pub fn new(planner: P) -> Judge<P> {
-        let all = 2 * MOST + 2 * MARGIN;
-        let clean: Vec<u8> = (0..all).map(|k| 0x80 | (k * 37 % 128) as u8).collect();
         Judge {
             planner,
-            lent: clean.clone(),
-            clean,
+            lent: Lent::default(),
         }
     }
 
     /// One call, with a buffer of this size.
     pub fn call(&mut self, sheet: &[u8], size: usize, due: &Expected) -> Result<Hosted, String> {
-        let clean = &self.clean[..size + 2 * MARGIN];
-        let lent = &mut self.lent[..size + 2 * MARGIN];
-        lent.copy_from_slice(clean);
-        let hosted = (self.planner)(sheet, &mut lent[MARGIN..MARGIN + size]);
+        let planner = &self.planner;
+        let hosted = self.lent.lend(size, |listing| planner(sheet, listing));
         let (answer, listing) = due.at(size);
-        let end = MARGIN + listing.len();
         if hosted != answer {
             return Err(format!("returned {hosted:?}, expected {answer:?}"));
         }
-        if lent[..MARGIN] != clean[..MARGIN] {
-            return Err("bytes before the buffer changed".into());
-        }
-        if lent[end..] != clean[end..] {
-            return Err("bytes past the listing changed".into());
-        }
-        if lent[MARGIN..end] != *listing {
-            return Err(format!(
-                "listing:\n{}\nexpected:\n{}",
-                String::from_utf8_lossy(&lent[MARGIN..end]),
-                String::from_utf8_lossy(listing)
-            ));
-        }
+        self.lent.holds(listing)?;
         Ok(hosted)
     }
 

@@ -1,9 +1,12 @@
 //! The planner as a host program calls it: a sheet's bytes go in, the
-//! listing's bytes come back in a lent buffer.
+//! listing's bytes come back in a lent buffer. With a journal's bytes beside
+//! the sheet's, those of its calls' answers come back.
 
 pub mod check;
+pub mod journal;
 pub mod kinds;
 pub mod listing;
+pub mod runs;
 
 /// What the call returns: refusal 0 and the listing's length, or a refusal
 /// with its line (0 where the buffer is too short) and length 0.
@@ -15,6 +18,17 @@ pub struct Hosted {
     pub length: u64,
 }
 
+/// What a run returns: refusal 0 and how many bytes the answers have, or a
+/// refusal of the sheet or the journal with its line (0 where the buffer is
+/// too short) and length 0.
+#[repr(C)]
+#[derive(Clone, Copy, Debug, PartialEq, Eq)]
+pub struct Ran {
+    pub refusal: u32,
+    pub line: usize,
+    pub length: usize,
+}
+
 extern "C" {
     fn bankplan_plan(
         sheet: *const u8,
@@ -22,6 +36,15 @@ extern "C" {
         listing: *mut u8,
         listing_len: usize,
     ) -> Hosted;
+
+    fn bankplan_run(
+        sheet: *const u8,
+        sheet_len: usize,
+        journal: *const u8,
+        journal_len: usize,
+        answers: *mut u8,
+        answers_len: usize,
+    ) -> Ran;
 }
 
 /// Read the sheet, plan it and write the listing to the front of the buffer.
@@ -35,6 +58,23 @@ pub fn plan(sheet: &[u8], listing: &mut [u8]) -> Hosted {
             sheet.len(),
             listing.as_mut_ptr(),
             listing.len(),
+        )
+    }
+}
+
+/// Read the sheet, make the journal's calls on it one after the other, and
+/// write their answers to the front of the buffer. This is the proved code.
+pub fn run(sheet: &[u8], journal: &[u8], answers: &mut [u8]) -> Ran {
+    // SAFETY: the call takes any bytes and any three lengths, reads the first
+    // two slices, writes to the third and keeps none.
+    unsafe {
+        bankplan_run(
+            sheet.as_ptr(),
+            sheet.len(),
+            journal.as_ptr(),
+            journal.len(),
+            answers.as_mut_ptr(),
+            answers.len(),
         )
     }
 }
