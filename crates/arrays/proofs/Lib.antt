@@ -1,4 +1,5 @@
 pub mod Bits
+pub mod Entering
 pub mod Entries
 pub mod Filling
 pub mod Floor

@@ -36,3 +36,8 @@ pub record Over (rows other rows′ : List ℕ) (i : ℕ) : Type 0 where
 pub record Empty (rows rows′ : List ℕ) (i : ℕ) : Type 0 where
   pub long : length rows′ ≡ length rows
   pub each : (k b : ℕ) → k < 24 → b < 256 → inRow rows′ k b ≡ (inRow rows k b and not (eqb k i))
+
+-- each of the first n jobs is in the row of the machine that it is on
+pub record Entered (places : List ℕ) (n : ℕ) (rows : List ℕ) : Type 0 where
+  pub long : length rows ≡ 96
+  pub each : (i b : ℕ) → i < 24 → b < 256 → inRow rows i b ≡ (ltb b n and eqb (getD places b 0) (suc i))

@@ -1,10 +1,10 @@
 // Sets of jobs, one for each machine: a row of four words of 64. Machines and jobs are given by index.
 ghost use mathlib.Core.Path.{_≡_};
 ghost use Prim.Native.Nat.{ℕ, suc, _+_, _-_, _*_, _/_, _<_, _≤_};
-ghost use lib.ListN.{length};
+ghost use lib.ListN.{length, getD};
 ghost use Rattle.rules.specs.Fold.{anyTo, firstTo};
 ghost use Rattle.arrays.specs.Sets.{has};
-ghost use Rattle.arrays.specs.Rows.{inRow, between, Out, In, Over, Empty};
+ghost use Rattle.arrays.specs.Rows.{inRow, between, Out, In, Over, Empty, Entered};
 
 // The lowest job of a row, as a number from 1; 0 where there is none.
 pub fn first_in(rows: &[u64], i: usize) -> usize
@@ -98,4 +98,29 @@ pub fn enter(rows: &mut [u64], i: usize, b: usize)
     let k = b % 64;
     let w = 4 * i + b / 64;
     rows[w] = rows[w] | span(k, k + 1);
+}
+
+// The job at index `b` is taken out of the row of machine `i`.
+pub fn leave(rows: &mut [u64], i: usize, b: usize)
+    requires { ⌜ (i < 24) × (length (now rows) ≡ 96) × (b < 256) ⌝ }
+    ensures { λ _. ⌜ Out (now (rows .entry)) (now (rows .exit)) i b (b + 1) ⌝ }
+{
+    let k = b % 64;
+    let w = 4 * i + b / 64;
+    rows[w] = rows[w] & !span(k, k + 1);
+}
+
+// The jobs on each machine, as rows.
+pub fn rows_of(places: &[u8], n: usize) -> [u64; 96]
+    requires { ⌜ (n ≤ 200) × (n ≤ length (now places)) × ((b : ℕ) → b < n → (0 < getD (now places) b 0) × (getD (now places) b 0 ≤ 24)) ⌝ }
+    ensures { λ r. ⌜ Entered (now (places .entry)) n r ⌝ }
+{
+    let mut rows = [0u64; 96];
+    let mut b: usize = 0;
+    while b < n {
+        let i = places[b] as usize - 1;
+        enter(&mut rows, i, b);
+        b += 1;
+    }
+    rows
 }

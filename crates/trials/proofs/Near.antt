@@ -17,15 +17,11 @@ use Rattle.theory.proofs.Logic.{byTest, conflict, and-left, and-right, and-mk, 
 use Rattle.theory.proofs.Heights.{at-zeros}
 use Rattle.theory.proofs.View.{None, First, first, first-hit, first-miss, Least, least, Some, here, any-some, any-none}
 use Rattle.arrays.proofs.Words.{set-zero}
+use Rattle.arrays.proofs.Entering.{same-bool, between-is, is-between}
 use Rattle.arrays.specs.Rows.{inRow, between, Out, In, Over, Empty}
 use Rattle.trials.specs.Near.{spot, Near, Ranged, Rises}
 
 -- ---- tests
-
-same-bool : (a b : Bool) → (a ≡ true → b ≡ true) → (b ≡ true → a ≡ true) → a ≡ b
-same-bool true b f g = sym (f refl)
-same-bool false true f g = g refl
-same-bool false false f g = refl
 
 pub spot-is : (n : ℕ) (places : List ℕ) (i b x y : ℕ) → spot n places i b x y ≡ true → (b < n) × (getD places b 0 ≡ suc i) × (x ≡ y)
 spot-is n places i b x y e =
@@ -47,14 +43,6 @@ spot-suc n places i b x y =
 -- numbers that differ
 pub spot-off : (n : ℕ) (places : List ℕ) (i b x y : ℕ) → x ≢ y → spot n places i b x y ≡ false
 spot-off n places i b x y e = byTest (spot n places i b x y) (λ t. absurd (e (spot-is n places i b x y t .2))) (λ t. t)
-
-between-is : (from to b : ℕ) → between from to b ≡ true → (from ≤ b) × (b < to)
-unfolding between
-between-is from to b e = (leb-true _ _ (and-left _ _ e), ltb-true _ _ (and-right (leb from b) _ e))
-
-is-between : (from to b : ℕ) → from ≤ b → b < to → between from to b ≡ true
-unfolding between
-is-between from to b l u = and-mk _ _ (le-leb _ _ l) (lt-ltb _ _ u)
 
 -- inside or outside of a range
 range : {X : Type 0} (from to b : ℕ) → (from ≤ b → b < to → between from to b ≡ true → X) → ((b < from) ⊎ (to ≤ b) → between from to b ≡ false → X) → X
@@ -355,43 +343,6 @@ near-start level zeros machines jobs places n l z e o p q = record {
     all true false = refl
     all false true = refl
     all false false = refl
-
--- ---- the jobs on each machine, entered one after the other
-
--- the first b jobs are in
-abbrev pub EnteredTo : List ℕ → ℕ → List ℕ → Type 0
-EnteredTo places b rows = (i k : ℕ) → i < 24 → k < 256 → inRow rows i k ≡ (ltb k b and eqb (getD places k 0) (suc i))
-
-pub zeros-none : (i k : ℕ) → inRow (replicate 96 0) i k ≡ false
-unfolding inRow
-zeros-none i k = rw (at-zeros 96 (suc (4 * i + k / 64))) (set-zero 0 refl (suc (k % 64)))
-
-pub entered-none : (places : List ℕ) → EnteredTo places 0 (replicate 96 0)
-unfolding _and_
-entered-none places i k il kl = zeros-none i k ∙ (rw (le-ltb k 0 (omega arith)) refl)
-
-pub entered-more : (places : List ℕ) {rows rows′ : List ℕ} {b p : ℕ} → EnteredTo places b rows → p ≡ getD places b 0 → 0 < p → In rows rows′ (p - 1) b (b + 1)
-    → EnteredTo places (b + 1) rows′
-entered-more places {rows} {rows′} {b} {p} v e l w i k il kl =
-    w .each i k il kl
-    ∙ same-bool _ _
-    (λ t. or-cases (inRow rows i k) _ t
-    (λ f. let q = sym (v i k il kl) ∙ f in and-mk _ _ (lt-ltb k (b + 1) (let z = ltb-true k b (and-left _ _ q) in omega arith)) (and-right (ltb k b) _ q))
-    (λ f.
-    let q = eqb-true i (p - 1) (and-left _ _ f) in
-    let r = between-is b (b + 1) k (and-right (eqb i (p - 1)) _ f) in
-    let z : k ≡ b = omega arith in
-    and-mk _ _ (lt-ltb k (b + 1) (omega arith)) (eq-eqb _ _ (ap (λ (x : ℕ). getD places x 0) z ∙ sym e ∙ (let y : p ≡ suc i = omega arith in y)))))
-    (λ t.
-    let q = ltb-true k (b + 1) (and-left _ _ t) in
-    let r = eqb-true _ _ (and-right (ltb k (b + 1)) _ t) in
-    elim (decLe b k) [
-      | yes h ↦
-          let z : k ≡ b = omega arith in
-          let y : p ≡ suc i = e ∙ ap (λ (x : ℕ). getD places x 0) (sym z) ∙ r in
-          or-right (inRow rows i k) _ (and-mk _ _ (eq-eqb i (p - 1) (omega arith)) (is-between b (b + 1) k h q))
-      | no h ↦ or-left _ _ (v i k il kl ∙ and-mk _ _ (lt-ltb k b (omega arith)) (eq-eqb _ _ r))
-    ])
 
 -- ---- a lift, by one or by two
 

@@ -41,11 +41,6 @@ pub record Rises (below level above below′ level′ above′ : List ℕ) (i : 
   pub two : some ≡ false → Over below above below′ i × (level′ ≡ level)
   pub cleared : Empty above above′ i
 
--- each of the first n jobs is in the row of the machine that it is on
-pub record Entered (places : List ℕ) (n : ℕ) (rows : List ℕ) : Type 0 where
-  pub long : length rows ≡ 96
-  pub each : (i b : ℕ) → i < 24 → b < 256 → inRow rows i b ≡ (ltb b n and eqb (getD places b 0) (suc i))
-
 -- nothing is lifted yet
 abbrev pub Flat : State → Type 0
 Flat t = ((i : ℕ) → getD (t .machines) i 0 ≡ 0) × ((b : ℕ) → getD (t .jobs) b 0 ≡ 0)

@@ -2,19 +2,19 @@
 ghost use mathlib.Core.Path.{_≡_};
 ghost use mathlib.Core.Bool.{Bool, true, false};
 ghost use Prim.Native.Nat.{ℕ, _+_, _≤_, _<_};
-ghost use lib.ListN.{length, take, getD};
+ghost use lib.ListN.{length, take};
 ghost use lib.Dec.{leb};
 ghost use Rattle.rules.specs.Instance.{Instance};
 ghost use Rattle.arrays.specs.Sets.{SetOf};
 ghost use Rattle.trials.specs.Track.{Stepping, Ends};
-ghost use Rattle.trials.specs.Near.{Entered, Flat};
+ghost use Rattle.trials.specs.Near.{Flat};
 ghost use Rattle.trials.specs.Attempt.{Fresh, Standing, Tries};
 ghost use Rattle.rules.specs.Load.{longest};
 use crate::State;
 use crate::group::all_machines;
 use crate::group::closure_of;
 use crate::step::step;
-use arrays::rows::enter;
+use arrays::rows::rows_of;
 use arrays::scan::some_at_most;
 use arrays::setup::first_over;
 
@@ -45,21 +45,6 @@ fn begin(places: [u8; 200], loads: [u32; 24], m: usize, full: u32) -> State
         pushes: 0,
         resting: false,
     }
-}
-
-// The jobs on each machine, as rows.
-fn rows_of(places: &[u8], n: usize) -> [u64; 96]
-    requires { ⌜ (n ≤ 200) × (n ≤ length (now places)) × ((b : ℕ) → b < n → (0 < getD (now places) b 0) × (getD (now places) b 0 ≤ 24)) ⌝ }
-    ensures { λ r. ⌜ Entered (now (places .entry)) n r ⌝ }
-{
-    let mut rows = [0u64; 96];
-    let mut b: usize = 0;
-    while b < n {
-        let i = places[b] as usize - 1;
-        enter(&mut rows, i, b);
-        b += 1;
-    }
-    rows
 }
 
 // Steps until nothing acts.

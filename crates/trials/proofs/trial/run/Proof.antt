@@ -9,7 +9,8 @@ use borrow.Author.Tests.{not-true, not-false}
 use Rattle.rules.specs.Instance.{Instance}
 use Rattle.trials.specs.Near.{Near}
 use Rattle.trials.specs.Track.{Stepping, Stepped}
-use Rattle.trials.proofs.Near.{near-start, zeros-none}
+use Rattle.arrays.proofs.Entering.{zeros-none}
+use Rattle.trials.proofs.Near.{near-start}
 use Rattle.trials.proofs.Running.{left, few-steps, none-yet, one-more, at-end, nearer, places-in}
 use Rattle.trials.proofs.trial.run.Statement.{statement}
 use Rattle.trials.proofs.trial.run.Tie as tie

@@ -5,9 +5,9 @@ use mathlib.Core.Path.{_≡_, refl, sym, _∙_}
 use native.Mathlib.Omega.{arith}
 use lib.ListN.{length}
 use borrow.Author.Needs.{needs}
-use Rattle.trials.proofs.Near.{EnteredTo, entered-none, entered-more}
-use Rattle.trials.proofs.trial.rows_of.Statement.{statement}
-use Rattle.trials.proofs.trial.rows_of.Tie as tie
+use Rattle.arrays.proofs.Entering.{EnteredTo, entered-none, entered-more}
+use Rattle.arrays.proofs.rows.rows_of.Statement.{statement}
+use Rattle.arrays.proofs.rows.rows_of.Tie as tie
 
 abbrev Inv-loop : tie.InvT-loop
 Inv-loop places n rows₀ b₀ rows b = (b ≤ n) × (length rows ≡ 96) × EnteredTo places b rows

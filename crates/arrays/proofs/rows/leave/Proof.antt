@@ -1,0 +1,65 @@
+-- One bit of one word.
+-- Assumes nothing.
+use Prim.Native.Nat.{suc, _+_, _-_, _*_, _/_, _%_}
+use mathlib.Core.Path.{ap, _∙_}
+use native.Mathlib.Omega.{arith}
+use lib.ListN.{getD}
+use borrow.Author.Needs.{needs}
+use Rattle.arrays.specs.Sets.{has}
+use Rattle.arrays.proofs.JobRows.{less, less-keep, less-join, has-less, changed-none, changed-more, changed-out}
+use Rattle.arrays.proofs.rows.leave.Statement.{statement}
+use Rattle.arrays.proofs.rows.leave.Tie as tie
+
+mul-w : tie.Need-mul-w
+mul-w c = omega arith
+
+add-w : tie.Need-add-w
+add-w c = omega arith
+
+mul-rows : tie.Need-mul-rows
+mul-rows c = omega arith
+
+slice-read-rows : tie.Need-slice-read-rows
+slice-read-rows c = omega arith
+
+add-span : tie.Need-add-span
+add-span c = omega arith
+
+span-requires : tie.Need-span-requires
+span-requires c κs = (omega arith, omega arith, omega arith)
+
+mul-rows-2 : tie.Need-mul-rows-2
+mul-rows-2 c = omega arith
+
+slice-write-rows : tie.Need-slice-write-rows
+slice-write-rows c = omega arith
+
+same-length : tie.Need-same-length
+same-length c = search needs
+
+returns : tie.Need-returns
+returns c =
+    let st = c .before .before .before in
+    let i = st .args .i in
+    let b = st .args .b in
+    let x = getD (st .args .rows .now) (4 * i + b / 64) 0 in
+    changed-out _ _ _ _ _
+    (changed-more less less-keep i (st .pre .0) (λ a s t. less-join a s t) _ _ b b (b + 1) (b / 64) (b % 64) (b % 64 + 1) _ (st .pre .1)
+    (omega arith) (omega arith) (omega arith) (omega arith) (omega arith) (omega arith)
+    (λ k l. has-less x (c .span .result) k (omega arith) l ∙ ap (less (has x (suc k))) (c .span .ensures k l))
+    (changed-none less less-keep i (st .pre .0) _ b))
+
+pub leave-spec : {M : Type 1} → statement M
+leave-spec =
+    tie.close
+    (tie.spec
+    mul-w
+    add-w
+    mul-rows
+    slice-read-rows
+    add-span
+    span-requires
+    mul-rows-2
+    slice-write-rows
+    same-length
+    returns)
