@@ -1,7 +1,9 @@
 // One trial at a level, step by step on arrays, and the group of a failed one.
 pub mod group;
+pub mod hand;
 pub mod step;
 pub mod trial;
+pub mod turn;
 
 // A trial between two steps: the heights of machines and jobs and the places, and beside them, for speed, the loads, the set of
 // machines at each height, the counts, and whether nothing can act.

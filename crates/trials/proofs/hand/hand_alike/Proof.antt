@@ -18,8 +18,8 @@ use Rattle.trials.proofs.Alike.{alike-is, Next, next-of, passing-of, gi
 use Rattle.trials.specs.Near.{Ranged}
 use Rattle.trials.proofs.Near.{ranged-none, ranged-more}
 use Rattle.trials.proofs.Turning.{along-on}
-use Rattle.trials.proofs.step.hand_alike.Statement.{statement}
-use Rattle.trials.proofs.step.hand_alike.Tie as tie
+use Rattle.trials.proofs.hand.hand_alike.Statement.{statement}
+use Rattle.trials.proofs.hand.hand_alike.Tie as tie
 
 abbrev Inv-loop : tie.InvT-loop
 Inv-loop places₀ jobs₀ loads minutes masks n limit i low j g watch want most first number to b₀ x₀ y₀ places jobs b x y =

@@ -24,8 +24,8 @@ use Rattle.trials.proofs.Around.{some-on, none-high, around}
 use Rattle.trials.proofs.Near.{near-lowest, near-risen}
 use Rattle.trials.proofs.Stepping.{rests-without, rests-none, in-bank, passing, stopped, raised}
 use borrow.Author.Needs.{needs}
-use Rattle.trials.proofs.step.turn.Statement.{statement}
-use Rattle.trials.proofs.step.turn.Tie as tie
+use Rattle.trials.proofs.turn.turn.Statement.{statement}
+use Rattle.trials.proofs.turn.turn.Tie as tie
 
 suc-pred : (r : ℕ) → 0 < r → r ≡ suc (r - 1)
 suc-pred r h = omega arith

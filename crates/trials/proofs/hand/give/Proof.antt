@@ -19,8 +19,8 @@ use Rattle.trials.specs.Near.{Ranged, Moves}
 use Rattle.trials.proofs.Alike.{next-of}
 use Rattle.trials.proofs.Giving.{height-is, job-in, giver-in, reaches, machine-found, lift-bound-small, push-bound-small}
 use Rattle.trials.proofs.Watch.{watched}
-use Rattle.trials.proofs.step.give.Statement.{statement}
-use Rattle.trials.proofs.step.give.Tie as tie
+use Rattle.trials.proofs.hand.give.Statement.{statement}
+use Rattle.trials.proofs.hand.give.Tie as tie
 
 -- ---- what is known from the start
 

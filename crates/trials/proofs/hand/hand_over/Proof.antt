@@ -20,8 +20,8 @@ use Rattle.trials.specs.Track.{arrays, Giving, Passing, Along}
 use Rattle.trials.proofs.Giving.{push-bound-small}
 use Rattle.trials.proofs.Near.{near-first, near-moved}
 use Rattle.trials.proofs.Turning.{along-start, in-range, giving, went-none, went-stopped, along-on, along-again}
-use Rattle.trials.proofs.step.hand_over.Statement.{statement}
-use Rattle.trials.proofs.step.hand_over.Tie as tie
+use Rattle.trials.proofs.hand.hand_over.Statement.{statement}
+use Rattle.trials.proofs.hand.hand_over.Tie as tie
 
 abbrev Inv-loop : tie.InvT-loop
 Inv-loop places₀ jobs₀ loads₀ below₀ above₀ machines levels minutes masks m n a limit i lifts pushes l₀ p₀ places jobs loads below above l p =

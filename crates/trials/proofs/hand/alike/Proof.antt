@@ -5,8 +5,8 @@ use mathlib.Core.Bool.{Bool, true, false}
 use borrow.Author.Needs.{needs}
 use borrow.Author.Tests.{lt-ltb, le-ltb, eq-eqb, ne-eqb}
 use Rattle.rules.specs.Fold.{_and_}
-use Rattle.trials.proofs.step.alike.Statement.{statement}
-use Rattle.trials.proofs.step.alike.Tie as tie
+use Rattle.trials.proofs.hand.alike.Statement.{statement}
+use Rattle.trials.proofs.hand.alike.Tie as tie
 
 first : {p : Bool} (q r s : Bool) → p ≡ false → false ≡ (p and q and r and s)
 unfolding _and_

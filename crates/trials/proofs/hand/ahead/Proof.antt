@@ -11,8 +11,8 @@ use borrow.Author.Tests.{le-leb}
 use Rattle.theory.proofs.Logic.{and-mk, or-left, or-right}
 use Rattle.arrays.specs.Sets.{has}
 use Rattle.arrays.proofs.Words.{has-or}
-use Rattle.trials.proofs.step.ahead.Statement.{statement}
-use Rattle.trials.proofs.step.ahead.Tie as tie
+use Rattle.trials.proofs.hand.ahead.Statement.{statement}
+use Rattle.trials.proofs.hand.ahead.Tie as tie
 
 abbrev Inv-loop : tie.InvT-loop
 Inv-loop levels from machine height x₀ h₀ x h =

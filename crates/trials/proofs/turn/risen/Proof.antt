@@ -2,8 +2,8 @@
 -- Assumes nothing.
 use native.Mathlib.Omega.{arith}
 use borrow.Author.Needs.{needs}
-use Rattle.trials.proofs.step.risen.Statement.{statement}
-use Rattle.trials.proofs.step.risen.Tie as tie
+use Rattle.trials.proofs.turn.risen.Statement.{statement}
+use Rattle.trials.proofs.turn.risen.Tie as tie
 
 add-result : tie.Need-add-result
 add-result c = search needs

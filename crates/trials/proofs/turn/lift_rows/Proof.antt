@@ -3,8 +3,8 @@
 use mathlib.Core.Path.{_≡_, refl, sym, _∙_}
 use mathlib.Core.Bool.{true, false, true≢false}
 use borrow.Author.Needs.{needs}
-use Rattle.trials.proofs.step.lift_rows.Statement.{statement}
-use Rattle.trials.proofs.step.lift_rows.Tie as tie
+use Rattle.trials.proofs.turn.lift_rows.Statement.{statement}
+use Rattle.trials.proofs.turn.lift_rows.Tie as tie
 
 some-in-requires : tie.Need-some-in-requires
 some-in-requires c κs = search needs

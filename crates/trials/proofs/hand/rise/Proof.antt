@@ -1,8 +1,8 @@
 -- By which way the test went.
 -- Assumes nothing.
 use borrow.Author.Tests.{eq-eqb, ne-eqb}
-use Rattle.trials.proofs.step.weigh.Statement.{statement}
-use Rattle.trials.proofs.step.weigh.Tie as tie
+use Rattle.trials.proofs.hand.rise.Statement.{statement}
+use Rattle.trials.proofs.hand.rise.Tie as tie
 
 returns : tie.Need-returns
 returns c = rw (eq-eqb _ _ (c .if1 .taken))
@@ -10,5 +10,5 @@ returns c = rw (eq-eqb _ _ (c .if1 .taken))
 returns-2 : tie.Need-returns-2
 returns-2 c = rw (ne-eqb _ _ (c .if1 .left))
 
-pub weigh-spec : {M : Type 1} → statement M
-weigh-spec = tie.close (tie.spec returns returns-2)
+pub rise-spec : {M : Type 1} → statement M
+rise-spec = tie.close (tie.spec returns returns-2)

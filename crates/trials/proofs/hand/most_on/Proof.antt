@@ -1,8 +1,8 @@
 -- Each way bounds the load.
 -- Assumes nothing.
 use native.Mathlib.Omega.{arith}
-use Rattle.trials.proofs.step.most_on.Statement.{statement}
-use Rattle.trials.proofs.step.most_on.Tie as tie
+use Rattle.trials.proofs.hand.most_on.Statement.{statement}
+use Rattle.trials.proofs.hand.most_on.Tie as tie
 
 returns : tie.Need-returns
 returns c = omega arith
