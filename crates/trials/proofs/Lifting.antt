@@ -7,25 +7,27 @@ use mathlib.Core.Logic.{_≢_}
 use mathlib.Core.List.{List}
 use native.Mathlib.Numerals.{add-one}
 use native.Mathlib.Omega.{arith}
+use native.Mathlib.Decide.{ℕ-discrete}
 use lib.ListN.{length, take, getD, set}
+use lib.Seq.{getD-set-same, getD-set-other}
 use lib.Dec.{eqb, ltb, leb}
-use borrow.Author.Tests.{leb-true}
+use borrow.Author.Tests.{leb-true, le-leb}
 use Rattle.rules.specs.Fold.{_and_, at, put, leastTo}
 use Rattle.rules.specs.Instance.{Instance, n}
 use Rattle.theory.proofs.Logic.{and-right}
 use Rattle.theory.proofs.Fold.{at-put-same}
 use Rattle.theory.proofs.Ending.{Counted, counted-step}
 use Rattle.theory.proofs.Iterate.{Leads, leads-keeps}
-use Rattle.theory.proofs.Turn.{able, nextOff, lowestOn, machine-low}
+use Rattle.theory.proofs.Turn.{able, first-ext, nextOff, lowestOn, machine-low}
 use Rattle.theory.proofs.Handed.{able-first}
 use Rattle.trials.specs.declared.State.{State}
 use Rattle.arrays.specs.Sets.{Levels, Lifted}
-use Rattle.trials.specs.Track.{stateOf, Setup, Tracks, Turn}
+use Rattle.trials.specs.Track.{stateOf, Setup, Tracks, Turn, Rose}
 use Rattle.trials.proofs.Take.{at-take, take-put, take-long}
 use Rattle.arrays.proofs.Levels.{lifted-levels}
 use Rattle.trials.proofs.Handing.{machine-in}
-use Rattle.trials.proofs.Going.{able-by}
-use Rattle.trials.proofs.Raising.{raiseOn, lowest-by, raise-on, raise-tracks}
+use Rattle.trials.proofs.Going.{able-by, some-by}
+use Rattle.trials.proofs.Raising.{raiseOn, first-by, lowest-by, raise-on, raise-tracks}
 
 module _ {I : Instance} {a limit m c : ℕ} {lengths sets : List ℕ} (u : Setup I a limit m c lengths sets) (t : State) (i : ℕ)
     (k : Turn I a (suc i) t) (z : nextOff I (stateOf (I .m) (n I) t) (suc i) ≡ 0) (low : ℕ)
@@ -102,3 +104,33 @@ module _ {I : Instance} {a limit m c : ℕ} {lengths sets : List ℕ} (u : Setup
       (raise-tracks I a t u i low levels k z low-is
       (lifted-levels (I .m) (suc i) (getD (t .machines) i 0) (suc low) (t .levels) levels (t .machines) (k .tracks .levels) (omega arith) inside
       (omega (arith, machines-long, inside)) refl (λ w. omega (arith, under)) (rw (add-one low) at f)))
+
+  -- where it is not too high then, it has the turn still
+  pub lift-rose : (levels : List ℕ) → Lifted (t .levels) levels (suc i) (getD (t .machines) i 0) (low + 1) → Rose I a m i t (lifted levels)
+  lift-rose levels f =
+      let k′ = lift-tracks levels f in
+      let long : i < length (t .machines) = omega (arith, machines-long, inside) in
+      let g = getD-set-same (t .machines) i (low + 1) 0 long in
+      record {
+        leads = lift-leads levels;
+        tracks = k′;
+        turn = λ h. record {
+          tracks = k′;
+          first =
+              sym (first-by I a (lifted levels) u k′)
+              ∙ first-ext m _ _ (λ q q0 qm. elim (ℕ-discrete q (suc i)) [
+                | yes y ↦
+                    rw y (ap (λ (b : Bool). ltb limit (at (t .loads) (suc i)) and b)
+                    (le-leb (getD (set (t .machines) i (low + 1)) i 0) (2 * m) h ∙ sym (le-leb (getD (t .machines) i 0) (2 * m) machine-small)))
+                | no y ↦
+                    ap (λ (x : ℕ). ltb limit (at (t .loads) q) and leb x (2 * m)) (other q q0 y)
+              ])
+              ∙ first-by I a t u (k .tracks)
+              ∙ k .first;
+          some = sym (some-by I a (lifted levels) k′ u) ∙ some-by I a t (k .tracks) u ∙ k .some;
+        };
+      }
+    where
+      other : (q : ℕ) → 0 < q → q ≢ suc i → at (set (t .machines) i (low + 1)) q ≡ at (t .machines) q
+      other zero q0 ne = absurd (omega arith)
+      other (suc q) q0 ne = getD-set-other (t .machines) i q (low + 1) 0 (λ e. ne (ap suc e))

@@ -142,6 +142,18 @@ abbrev pub Goes : ℕ → ℕ → ℕ → ℕ → List ℕ → List ℕ → ℕ 
 Goes a limit m c lengths sets i t t′ stopped =
     (I : Instance) → Passing I a limit m c lengths sets i t → Went I a i t t′ stopped
 
+-- it is the turn of the machine at index i, and no job is left just below it
+pub record Idle (I : Instance) (a limit m c : ℕ) (lengths sets : List ℕ) (i : ℕ) (t : State) : Type 0 where
+  pub setup : Setup I a limit m c lengths sets
+  pub turn : Turn I a (suc i) t
+  pub none : nextOff I (stateOf (I .m) (n I) t) (suc i) ≡ 0
+
+-- from t to t′ it was lifted, and has the turn still where it is not too high
+pub record Rose (I : Instance) (a m i : ℕ) (t t′ : State) : Type 0 where
+  pub leads : Leads I a (stateOf (I .m) (n I) t) (stateOf (I .m) (n I) t′)
+  pub tracks : Tracks I a t′
+  pub turn : getD (t′ .machines) i 0 ≤ 2 * m → Turn I a (suc i) t′
+
 -- so far in a turn: from t to t′, with the jobs up to number from passed
 pub record Along (I : Instance) (a i from : ℕ) (t t′ : State) : Type 0 where
   pub leads : Leads I a (stateOf (I .m) (n I) t) (stateOf (I .m) (n I) t′)

@@ -1,373 +1,297 @@
 -- A turn: that of the lowest machine that may act, or rest.
 -- Assumes nothing.
 use Prim.Native.Nat.{ℕ, suc, _+_, _-_, _*_, _≤_, _<_}
-use mathlib.Core.Path.{_≡_, refl, sym, ap, subst, _∙_}
-use mathlib.Core.Bool.{Bool, true, false, true≢false}
-use mathlib.Core.List.{List}
-use native.Mathlib.Numerals.{add-one}
+use mathlib.Core.Path.{_≡_, refl, sym, _∙_}
+use mathlib.Core.Bool.{true≢false}
 use native.Mathlib.Omega.{arith}
-use lib.ListN.{length, getD, set, length-set}
-use borrow.Author.Tests.{not-true, not-false}
-use lib.Dec.{leb, eqb}
-use Rattle.rules.specs.Fold.{pick, at, anyTo, leastTo}
+use lib.ListN.{length, getD}
+use borrow.Author.Needs.{needs}
 use Rattle.rules.specs.Instance.{Instance, n}
-use Rattle.trials.specs.declared.State.{State}
-use Rattle.arrays.specs.Sets.{Lifted}
-use Rattle.trials.specs.Near.{Near}
-use Rattle.trials.specs.Track.{arrays, Stepping, Stepped, Went}
 use Rattle.theory.proofs.Iterate.{leads-lifts, leads-pushes}
 use Rattle.theory.proofs.Lifts.{lifts-bound}
-use Rattle.arrays.proofs.Levels.{levels-leveled}
+use Rattle.trials.specs.declared.State.{State}
+use Rattle.trials.specs.Near.{Near}
+use Rattle.trials.specs.Track.{arrays, Wide, Stepping, Stepped, Went, Idle, Rose}
 use Rattle.trials.proofs.Giving.{lift-bound-small}
-use Rattle.trials.proofs.Lifting.{under, low-small}
-use Rattle.trials.proofs.Around.{some-on, none-high, around}
-use Rattle.trials.proofs.Near.{near-lowest, near-risen}
-use Rattle.trials.proofs.Stepping.{rests-without, rests-none, in-bank, passing, stopped, raised}
-use borrow.Author.Needs.{needs}
+use Rattle.trials.proofs.Stepping.{Far, rests-now, in-bank, far-start, far-went, far-rose, far-again}
 use Rattle.trials.proofs.turn.turn.Statement.{statement}
 use Rattle.trials.proofs.turn.turn.Tie as tie
 
-suc-pred : (r : ℕ) → 0 < r → r ≡ suc (r - 1)
-suc-pred r h = omega arith
+abbrev Inv-loop : tie.InvT-loop
+Inv-loop machines₀ jobs₀ places₀ loads₀ levels₀ below₀ level₀ above₀ minutes masks m n a limit lifts pushes top i l₀ p₀ machines jobs places loads levels below level above l p =
+    Wide machines jobs places loads levels × Near below level above machines jobs places n × (lifts + pushes ≤ l + p)
+    × ((I : Instance) → Stepping I a limit m n minutes masks (arrays machines₀ jobs₀ places₀ loads₀ levels₀ lifts pushes)
+    → Far I a (i - 1) (arrays machines₀ jobs₀ places₀ loads₀ levels₀ lifts pushes) (arrays machines jobs places loads levels l p))
+
+abbrev μ-loop : tie.MeasureT-loop
+μ-loop machines₀ jobs₀ places₀ loads₀ levels₀ below₀ level₀ above₀ minutes masks m n a limit lifts pushes top i l₀ p₀ machines jobs places loads levels below level above l p =
+    2 * m + 1 - getD machines (i - 1) 0
 
 -- ---- what is known from the start
 
-abbrev inst : tie.Start → Instance
-inst s = s .pre .0 .0
+abbrev Begin : Type 0
+Begin = tie.Start Inv-loop μ-loop
 
-abbrev at-start : tie.Start → State
+abbrev at-start : Begin → State
 at-start s = arrays (s .args .machines .now) (s .args .jobs .now) (s .args .places .now) (s .args .loads .now) (s .args .levels .now) (s .args .lifts) (s .args .pushes)
 
-abbrev Steps-on : (s : tie.Start) → Instance → Type 0
+abbrev Steps-on : (s : Begin) → Instance → Type 0
 Steps-on s I = Stepping I (s .args .a) (s .args .limit) (s .args .m) (s .args .n) (s .args .minutes .now) (s .args .masks .now) (at-start s)
 
-known : (s : tie.Start) → Steps-on s (inst s)
+known : (s : Begin) → Steps-on s (s .pre .0 .0)
 known s = s .pre .0 .1
 
-few : (s : tie.Start) → s .args .m ≤ 24
+few : (s : Begin) → s .args .m ≤ 24
 few s = known s .setup .reads .few
 
-most : (s : tie.Start) → s .args .n ≤ 200
+most : (s : Begin) → s .args .n ≤ 200
 most s = known s .setup .reads .most
 
-machines24 : (s : tie.Start) → length (s .args .machines .now) ≡ 24
-machines24 s = s .pre .1 .2 .0
+wide : (s : Begin) → Wide (s .args .machines .now) (s .args .jobs .now) (s .args .places .now) (s .args .loads .now) (s .args .levels .now)
+wide s = s .pre .1 .2
 
-jobs200 : (s : tie.Start) → length (s .args .jobs .now) ≡ 200
-jobs200 s = s .pre .1 .2 .1
-
-places200 : (s : tie.Start) → length (s .args .places .now) ≡ 200
-places200 s = s .pre .1 .2 .2
-
-loads24 : (s : tie.Start) → length (s .args .loads .now) ≡ 24
-loads24 s = s .pre .1 .2 .3
-
-levels64 : (s : tie.Start) → length (s .args .levels .now) ≡ 64
-levels64 s = s .pre .1 .2 .4
-
-near : (s : tie.Start) → Near (s .args .below .now) (s .args .level .now) (s .args .above .now) (s .args .machines .now) (s .args .jobs .now) (s .args .places .now) (s .args .n)
+near : (s : Begin) → Near (s .args .below .now) (s .args .level .now) (s .args .above .now) (s .args .machines .now) (s .args .jobs .now) (s .args .places .now) (s .args .n)
 near s = s .pre .1 .3
 
--- ---- after the search for the machine whose turn it is
+-- ---- in the loop
 
-abbrev start : tie.After-first-able → tie.Start
-start c = c .before .before .before .before .before .before .before .before .before .before .before .before .before .before .before .before
+abbrev there : tie.At-loop Inv-loop μ-loop → Begin
+there c = c .before .before .before .before .before .before .before .before .before .before .before .before .before .before .before
 
-some-light : (c : tie.After-first-able) → anyTo (start c .args .m) (λ q. leb (at (start c .args .loads .now) q) (start c .args .a)) ≡ true
-some-light c = sym (c .before .before .before .before .some-at-most .ensures) ∙ not-false (c .before .before .before .before .some-at-most .result) (c .before .before .before .if1 .left)
+giver-some : (c : tie.At-loop Inv-loop μ-loop) → 0 < c .before .before .whose .result
+giver-some c = omega (arith, c .before .if1 .left)
 
--- ---- after the turn
+giver-in : (c : tie.At-loop Inv-loop μ-loop) → c .before .before .whose .result - 1 < 24
+giver-in c = omega (arith, in-bank (known (there c)) (c .before .before .whose .result) (c .before .before .whose .ensures) (giver-some c), few (there c), giver-some c)
 
-abbrev able : tie.After-hand-over → tie.After-first-able
-able c = c .before .before .before .before .before .before .before .before .before
+abbrev now-at : tie.At-loop Inv-loop μ-loop → State
+now-at c = arrays (c .loop .machines) (c .loop .jobs) (c .loop .places) (c .loop .loads) (c .loop .levels) (c .loop .l) (c .loop .p)
 
-abbrev begin : tie.After-hand-over → tie.Start
-begin c = c .before .before .before .before .before .before .before .before .before .before .before .before .before .before .before .before .before .before .before .before .before .before .before .before .before
+-- ---- after the hand-overs
 
--- the machine whose turn it was
-abbrev giver : tie.After-hand-over → ℕ
-giver c = able c .first-able .result
+abbrev at-loop : tie.After-hand-over Inv-loop μ-loop → tie.At-loop Inv-loop μ-loop
+at-loop c = c .before .before .before .before .before .before .before .before
 
-giver-some : (c : tie.After-hand-over) → 0 < giver c
-giver-some c = omega (arith, c .before .before .before .before .before .before .before .before .if2 .left)
-
-giver-in : (c : tie.After-hand-over) → giver c ≤ begin c .args .m
-giver-in c = in-bank (known (begin c)) (some-light (able c)) (giver c) (able c .first-able .ensures) (giver-some c)
-
--- the state after it
-abbrev turned : tie.After-hand-over → State
+abbrev turned : tie.After-hand-over Inv-loop μ-loop → State
 turned c =
-    arrays (begin c .args .machines .now) (c .hand-over .last .1 .0) (c .hand-over .last .0) (c .hand-over .last .1 .1 .0) (begin c .args .levels .now)
+    arrays (c .before .before .before .before .before .before .before .before .loop .machines) (c .hand-over .last .1 .0) (c .hand-over .last .0) (c .hand-over .last .1 .1 .0) (c .before .before .before .before .before .before .before .before .loop .levels)
     (c .hand-over .result .lifts) (c .hand-over .result .pushes)
 
-went : (c : tie.After-hand-over) (I : Instance) → Steps-on (begin c) I
-    → Went I (begin c .args .a) (giver c - 1) (at-start (begin c)) (turned c) (c .hand-over .result .stopped)
+went : (c : tie.After-hand-over Inv-loop μ-loop) (I : Instance) → Steps-on (c .before .before .before .before .before .before .before .before .before .before .before .before .before .before .before .before .before .before .before .before .before .before .before) I
+    → Went I (c .before .before .before .before .before .before .before .before .before .before .before .before .before .before .before .before .before .before .before .before .before .before .before .args .a) (c .before .before .before .before .before .before .before .before .before .before .whose .result - 1) (now-at (c .before .before .before .before .before .before .before .before)) (turned c) (c .hand-over .result .stopped)
 went c I v =
-    c .hand-over .ensures .0 I
-    (passing v (some-light (able c)) (giver c) (able c .first-able .ensures) (giver-some c) (loads24 (begin c)))
+    c .hand-over .ensures .0 I (record { setup = v .setup; turn = c .before .before .before .before .before .before .before .before .loop .inv .3 I v .turn; wide = c .before .before .before .before .before .before .before .before .loop .inv .0 .3 })
 
-near-turned : (c : tie.After-hand-over)
-    → Near (c .hand-over .last .1 .1 .1 .0) (begin c .args .level .now) (c .hand-over .last .1 .1 .1 .1 .0) (begin c .args .machines .now) (c .hand-over .last .1 .0) (c .hand-over .last .0) (begin c .args .n)
-near-turned c = c .hand-over .ensures .1 .1 _ (near (begin c))
+step-went : (c : tie.After-hand-over Inv-loop μ-loop) (I : Instance) → Steps-on (c .before .before .before .before .before .before .before .before .before .before .before .before .before .before .before .before .before .before .before .before .before .before .before) I → Stepped I (c .before .before .before .before .before .before .before .before .before .before .before .before .before .before .before .before .before .before .before .before .before .before .before .args .a) (at-start (c .before .before .before .before .before .before .before .before .before .before .before .before .before .before .before .before .before .before .before .before .before .before .before)) (turned c)
+step-went c I v = far-went (c .before .before .before .before .before .before .before .before .loop .inv .3 I v) (went c I v) refl
 
--- the counts only grow
-counted : (c : tie.After-hand-over)
-    → (begin c .args .lifts ≤ c .hand-over .result .lifts) × (begin c .args .pushes ≤ c .hand-over .result .pushes)
+near-turned : (c : tie.After-hand-over Inv-loop μ-loop)
+    → Near (c .hand-over .last .1 .1 .1 .0) (c .before .before .before .before .before .before .before .before .loop .level) (c .hand-over .last .1 .1 .1 .1 .0) (c .before .before .before .before .before .before .before .before .loop .machines) (c .hand-over .last .1 .0) (c .hand-over .last .0) (c .before .before .before .before .before .before .before .before .before .before .before .before .before .before .before .before .before .before .before .before .before .before .before .args .n)
+near-turned c = c .hand-over .ensures .1 .1 _ (c .before .before .before .before .before .before .before .before .loop .inv .1)
+
+wide-turned : (c : tie.After-hand-over Inv-loop μ-loop) → Wide (c .before .before .before .before .before .before .before .before .loop .machines) (c .hand-over .last .1 .0) (c .hand-over .last .0) (c .hand-over .last .1 .1 .0) (c .before .before .before .before .before .before .before .before .loop .levels)
+wide-turned c = (
+  c .before .before .before .before .before .before .before .before .loop .inv .0 .0,
+  (let z : length (c .hand-over .last .1 .0) ≡ length (c .before .before .before .before .before .before .before .before .loop .jobs) = search needs in z ∙ c .before .before .before .before .before .before .before .before .loop .inv .0 .1),
+  (let z : length (c .hand-over .last .0) ≡ length (c .before .before .before .before .before .before .before .before .loop .places) = search needs in z ∙ c .before .before .before .before .before .before .before .before .loop .inv .0 .2),
+  (let z : length (c .hand-over .last .1 .1 .0) ≡ length (c .before .before .before .before .before .before .before .before .loop .loads) = search needs in z ∙ c .before .before .before .before .before .before .before .before .loop .inv .0 .3),
+  c .before .before .before .before .before .before .before .before .loop .inv .0 .4,
+)
+
+-- the counts only grow, and stay small
+counted : (c : tie.After-hand-over Inv-loop μ-loop)
+    → (c .before .before .before .before .before .before .before .before .loop .l ≤ c .hand-over .result .lifts) × (c .before .before .before .before .before .before .before .before .loop .p ≤ c .hand-over .result .pushes) × (c .hand-over .result .lifts ≤ 11176)
 counted c =
-    let w = went c (inst (begin c)) (known (begin c)) in
-    (leads-lifts (w .leads), leads-pushes (w .leads))
+    let w = went c (c .before .before .before .before .before .before .before .before .before .before .before .before .before .before .before .before .before .before .before .before .before .before .before .pre .0 .0) (known (c .before .before .before .before .before .before .before .before .before .before .before .before .before .before .before .before .before .before .before .before .before .before .before)) in (
+      leads-lifts (w .leads),
+      leads-pushes (w .leads),
+      omega (arith, lifts-bound (c .before .before .before .before .before .before .before .before .before .before .before .before .before .before .before .before .before .before .before .before .before .before .before .pre .0 .0) _ (w .tracks .counted .lifts), lift-bound-small (known (c .before .before .before .before .before .before .before .before .before .before .before .before .before .before .before .before .before .before .before .before .before .before .before) .setup .reads)),
+    )
 
--- and stay small
-small : (c : tie.After-hand-over) → c .hand-over .result .lifts ≤ 11176
-small c =
-    let w = went c (inst (begin c)) (known (begin c)) in
-    omega (arith, lifts-bound (inst (begin c)) _ (w .tracks .counted .lifts), lift-bound-small (known (begin c) .setup .reads))
+idle : (c : tie.Else2 Inv-loop μ-loop) (I : Instance) → Steps-on (c .before .before .before .before .before .before .before .before .before .before .before .before .before .before .before .before .before .before .before .before .before .before .before .before .before .before .before .before .before .before .before .before .before .before) I
+    → Idle I (c .before .before .before .before .before .before .before .before .before .before .before .before .before .before .before .before .before .before .before .before .before .before .before .before .before .before .before .before .before .before .before .before .before .before .args .a) (c .before .before .before .before .before .before .before .before .before .before .before .before .before .before .before .before .before .before .before .before .before .before .before .before .before .before .before .before .before .before .before .before .before .before .args .limit) (c .before .before .before .before .before .before .before .before .before .before .before .before .before .before .before .before .before .before .before .before .before .before .before .before .before .before .before .before .before .before .before .before .before .before .args .m) (c .before .before .before .before .before .before .before .before .before .before .before .before .before .before .before .before .before .before .before .before .before .before .before .before .before .before .before .before .before .before .before .before .before .before .args .n) (c .before .before .before .before .before .before .before .before .before .before .before .before .before .before .before .before .before .before .before .before .before .before .before .before .before .before .before .before .before .before .before .before .before .before .args .minutes .now) (c .before .before .before .before .before .before .before .before .before .before .before .before .before .before .before .before .before .before .before .before .before .before .before .before .before .before .before .before .before .before .before .before .before .before .args .masks .now) (c .before .before .before .before .before .before .before .before .before .before .before .before .before .before .before .before .before .before .before .before .before .whose .result - 1) (turned (c .before .before .before .before .before .before .before .before .before .before .before))
+idle c I v =
+    let w = went (c .before .before .before .before .before .before .before .before .before .before .before) I v in
+    record { setup = v .setup; turn = w .turn (c .if2 .left); none = w .none (c .if2 .left) }
 
--- ---- after the rows are lifted
+-- ---- after the lift
 
-abbrev over : tie.After-lift-rows → tie.After-hand-over
-over c = c .before .before .before .before .before .before .before .before .before .before .before .before .before .before .before .before
+abbrev up : tie.After-lift Inv-loop μ-loop → State
+up c =
+    arrays (c .lift .last .0) (c .before .before .before .before .before .before .before .before .before .before .before .before .before .before .before .before .before .hand-over .last .1 .0) (c .before .before .before .before .before .before .before .before .before .before .before .before .before .before .before .before .before .hand-over .last .0) (c .before .before .before .before .before .before .before .before .before .before .before .before .before .before .before .before .before .hand-over .last .1 .1 .0) (c .lift .last .1 .0)
+    (c .before .before .before .before .before .before .before .before .before .before .before .before .before .before .before .before .before .hand-over .result .lifts + 1) (c .before .before .before .before .before .before .before .before .before .before .before .before .before .before .before .before .before .hand-over .result .pushes)
 
-ended : (c : tie.After-lift-rows) → over c .hand-over .result .stopped ≡ false
-ended c = c .before .before .before .before .before .if3 .left
+rose : (c : tie.After-lift Inv-loop μ-loop) (I : Instance) → Steps-on (c .before .before .before .before .before .before .before .before .before .before .before .before .before .before .before .before .before .before .before .before .before .before .before .before .before .before .before .before .before .before .before .before .before .before .before .before .before .before .before .before) I
+    → Rose I (c .before .before .before .before .before .before .before .before .before .before .before .before .before .before .before .before .before .before .before .before .before .before .before .before .before .before .before .before .before .before .before .before .before .before .before .before .before .before .before .before .args .a) (c .before .before .before .before .before .before .before .before .before .before .before .before .before .before .before .before .before .before .before .before .before .before .before .before .before .before .before .before .before .before .before .before .before .before .before .before .before .before .before .before .args .m) (c .before .before .before .before .before .before .before .before .before .before .before .before .before .before .before .before .before .before .before .before .before .before .before .before .before .before .before .whose .result - 1) (turned (c .before .before .before .before .before .before .before .before .before .before .before .before .before .before .before .before .before)) (up c)
+    × Near (c .lift .last .1 .1 .0) (c .lift .last .1 .1 .1 .0) (c .lift .last .1 .1 .1 .1 .0) (c .lift .last .0) (c .before .before .before .before .before .before .before .before .before .before .before .before .before .before .before .before .before .hand-over .last .1 .0) (c .before .before .before .before .before .before .before .before .before .before .before .before .before .before .before .before .before .hand-over .last .0) (c .before .before .before .before .before .before .before .before .before .before .before .before .before .before .before .before .before .before .before .before .before .before .before .before .before .before .before .before .before .before .before .before .before .before .before .before .before .before .before .before .args .n)
+rose c I v = c .lift .ensures .1 I _ _ _ _ _ _ _ _ _ _ _ (idle (c .before .before .before .before .before .before) I v) (near-turned (c .before .before .before .before .before .before .before .before .before .before .before .before .before .before .before .before .before))
 
--- the machine's height before
-abbrev old : tie.After-lift-rows → ℕ
-old c = getD (begin (over c) .args .machines .now) (giver (over c) - 1) 0
+wide-up : (c : tie.After-lift Inv-loop μ-loop)
+    → Wide (c .lift .last .0) (c .before .before .before .before .before .before .before .before .before .before .before .before .before .before .before .before .before .hand-over .last .1 .0) (c .before .before .before .before .before .before .before .before .before .before .before .before .before .before .before .before .before .hand-over .last .0) (c .before .before .before .before .before .before .before .before .before .before .before .before .before .before .before .before .before .hand-over .last .1 .1 .0) (c .lift .last .1 .0)
+wide-up c =
+    let w = wide-turned (c .before .before .before .before .before .before .before .before .before .before .before .before .before .before .before .before .before) in (
+      (let z : length (c .lift .last .0) ≡ length (c .before .before .before .before .before .before .before .before .before .before .before .before .before .before .before .before .before .before .before .before .before .before .before .before .before .loop .machines) = search needs in z ∙ w .0),
+      w .1,
+      w .2,
+      w .3,
+      c .lift .ensures .0 .2 ∙ w .4,
+    )
 
--- the lowest job's
-abbrev low : tie.After-lift-rows → ℕ
-low c = pick (c .lift-rows .result) (old c) (suc (old c))
-
-module _ (c : tie.After-lift-rows) where
-  w : Went (inst (begin (over c))) (begin (over c) .args .a) (giver (over c) - 1) (at-start (begin (over c))) (turned (over c)) (over c .hand-over .result .stopped)
-  w = went (over c) (inst (begin (over c))) (known (begin (over c)))
-
-  low-is : low c ≡ at (turned (over c) .jobs) (leastTo (begin (over c) .args .n) (λ b. eqb (at (turned (over c) .places) b) (giver (over c) - 1 + 1)) (λ b. at (turned (over c) .jobs) b))
-  low-is =
-      let s = some-on (known (begin (over c)) .setup) (turned (over c)) (giver (over c) - 1) (w .turn (ended c)) in
-      rw (add-one (giver (over c) - 1))
-      (near-lowest (near-turned (over c)) (most (begin (over c))) (omega (arith, giver-some (over c), giver-in (over c), few (begin (over c))))
-      (around (known (begin (over c)) .setup) (turned (over c)) (giver (over c) - 1) (w .turn (ended c)) (w .none (ended c)))
-      (s .0) (s .1) (s .2) (c .lift-rows .result) (c .lift-rows .ensures .is))
-
-  low-le : low c ≤ 2 * begin (over c) .args .m + 1
-  low-le = low-small (known (begin (over c)) .setup) (turned (over c)) (giver (over c) - 1) (w .turn (ended c)) (w .none (ended c)) (low c) low-is
-
-  old-le : old c ≤ low c
-  old-le = under (known (begin (over c)) .setup) (turned (over c)) (giver (over c) - 1) (w .turn (ended c)) (w .none (ended c)) (low c) low-is
-
-  near-up : Near (c .lift-rows .last .0) (c .lift-rows .last .1 .0) (c .lift-rows .last .1 .1 .0) (set (begin (over c) .args .machines .now) (giver (over c) - 1) (low c + 1))
-      (over c .hand-over .last .1 .0) (over c .hand-over .last .0) (begin (over c) .args .n)
-  near-up =
-      near-risen (near-turned (over c)) (omega (arith, giver-some (over c), giver-in (over c), few (begin (over c))))
-      (omega (arith, giver-some (over c), giver-in (over c), few (begin (over c)), machines24 (begin (over c))))
-      (none-high (known (begin (over c)) .setup) (turned (over c)) (giver (over c) - 1) (w .turn (ended c)))
-      (c .lift-rows .result) (c .lift-rows .ensures)
-
-mul-top : tie.Need-mul-top
+mul-top : tie.Need-mul-top Inv-loop μ-loop
 mul-top c = omega (arith, few (c .before .before .before .before .before .before .before .before .before .before))
 
-cast-top : tie.Need-cast-top
+cast-top : tie.Need-cast-top Inv-loop μ-loop
 cast-top c = omega (arith, few (c .before .before .before .before .before .before .before .before .before .before))
 
-some-at-most-requires : tie.Need-some-at-most-requires
-some-at-most-requires c κs = let s = c .before .before .before .before .before .before .before .before .before .before .before in omega (arith, few s, loads24 s)
+whose-requires : tie.Need-whose-requires Inv-loop μ-loop
+whose-requires c κs = (omega (arith, few (c .before .before .before .before .before .before .before .before .before .before .before .before), wide (c .before .before .before .before .before .before .before .before .before .before .before .before) .3), omega (arith, few (c .before .before .before .before .before .before .before .before .before .before .before .before), wide (c .before .before .before .before .before .before .before .before .before .before .before .before) .0))
 
-same-length : tie.Need-same-length
+same-length : tie.Need-same-length Inv-loop μ-loop
 same-length c = search needs
 
-returns : tie.Need-returns
-returns c =
-    let s = c .before .before .before .before .before .before .before .before .before .before .before .before .before in (
-      λ I v. rests-without v (sym (c .before .some-at-most .ensures) ∙ not-true _ (c .if1 .taken)),
-      (λ x. absurd (true≢false x), s .pre .1 .2, near s),
-    )
-
-first-able-requires : tie.Need-first-able-requires
-first-able-requires c κs = let s = c .before .before .before .before .before .before .before .before .before .before .before .before .before .before .before in (omega (arith, few s, loads24 s), omega (arith, few s, machines24 s))
-
-same-length-2 : tie.Need-same-length-2
+same-length-2 : tie.Need-same-length-2 Inv-loop μ-loop
 same-length-2 c = search needs
 
-same-length-3 : tie.Need-same-length-3
-same-length-3 c = search needs
+returns : tie.Need-returns Inv-loop μ-loop
+returns c = (
+  λ I v. rests-now v (c .before .whose .result) (c .before .whose .ensures) (c .if1 .taken),
+  (λ x. absurd (true≢false x), wide (c .before .before .before .before .before .before .before .before .before .before .before .before .before .before), near (c .before .before .before .before .before .before .before .before .before .before .before .before .before .before)),
+)
 
-returns-2 : tie.Need-returns-2
-returns-2 c =
-    let s = c .before .before .before .before .before .before .before .before .before .before .before .before .before .before .before .before .before in (
-      λ I v. rests-none v (some-light (c .before)) (sym (c .before .first-able .ensures) ∙ c .if2 .taken),
-      (λ x. absurd (true≢false x), s .pre .1 .2, near s),
-    )
+loop-holds : tie.Need-loop-holds Inv-loop μ-loop
+loop-holds c = (
+  wide (c .before .before .before .before .before .before .before .before .before .before .before .before .before .before),
+  near (c .before .before .before .before .before .before .before .before .before .before .before .before .before .before),
+  omega arith,
+  λ I v. far-start v (c .before .whose .result) (c .before .whose .ensures) (omega (arith, c .if1 .left)),
+)
 
-sub-hand-over : tie.Need-sub-hand-over
-sub-hand-over c = omega (arith, c .before .before .before .before .before .before .before .if2 .left)
+sub-hand-over : tie.Need-sub-hand-over Inv-loop μ-loop
+sub-hand-over c = omega (arith, giver-some (c .before .before .before .before .before .before .before))
 
-hand-over-requires : tie.Need-hand-over-requires
+hand-over-requires : tie.Need-hand-over-requires Inv-loop μ-loop
 hand-over-requires c κs =
-    let d = c .before .before .before .before .before .before .before .before in
-    let s = start d in
-    let p : 0 < d .first-able .result = omega (arith, c .before .before .before .before .before .before .before .if2 .left) in (
-      (inst s, passing (known s) (some-light d) (d .first-able .result) (d .first-able .ensures) p (loads24 s)),
+    let k = c .before .before .before .before .before .before .before .loop .inv in (
+      (c .before .before .before .before .before .before .before .before .before .before .before .before .before .before .before .before .before .before .before .before .before .before .pre .0 .0, record { setup = known (c .before .before .before .before .before .before .before .before .before .before .before .before .before .before .before .before .before .before .before .before .before .before) .setup; turn = k .3 (c .before .before .before .before .before .before .before .before .before .before .before .before .before .before .before .before .before .before .before .before .before .before .pre .0 .0) (known (c .before .before .before .before .before .before .before .before .before .before .before .before .before .before .before .before .before .before .before .before .before .before)) .turn; wide = k .0 .3 }),
       (
-        s .pre .1 .0,
-        s .pre .1 .1,
-        omega (arith, places200 s, most s),
-        omega (arith, jobs200 s, most s),
-        machines24 s,
-        most s,
-        omega (arith, p, in-bank (known s) (some-light d) (d .first-able .result) (d .first-able .ensures) p, few s),
-        (s .args .level .now, near s),
+        c .before .before .before .before .before .before .before .before .before .before .before .before .before .before .before .before .before .before .before .before .before .before .pre .1 .0,
+        c .before .before .before .before .before .before .before .before .before .before .before .before .before .before .before .before .before .before .before .before .before .before .pre .1 .1,
+        omega (arith, k .0 .2, most (c .before .before .before .before .before .before .before .before .before .before .before .before .before .before .before .before .before .before .before .before .before .before)),
+        omega (arith, k .0 .1, most (c .before .before .before .before .before .before .before .before .before .before .before .before .before .before .before .before .before .before .before .before .before .before)),
+        k .0 .0,
+        most (c .before .before .before .before .before .before .before .before .before .before .before .before .before .before .before .before .before .before .before .before .before .before),
+        giver-in (c .before .before .before .before .before .before .before),
+        (c .before .before .before .before .before .before .before .loop .level, k .1),
       ),
     )
 
-same-length-4 : tie.Need-same-length-4
-same-length-4 c = search needs
+same-length-3 : tie.Need-same-length-3 Inv-loop μ-loop
+same-length-3 c = wide-turned (c .before .before .before .before .before .before .before .before .before .before .before) .0 ∙ sym (wide (c .before .before .before .before .before .before .before .before .before .before .before .before .before .before .before .before .before .before .before .before .before .before .before .before .before .before .before .before .before .before .before .before .before .before) .0)
 
-same-length-5 : tie.Need-same-length-5
-same-length-5 c = search needs
+same-length-4 : tie.Need-same-length-4 Inv-loop μ-loop
+same-length-4 c = wide-turned (c .before .before .before .before .before .before .before .before .before .before .before) .1 ∙ sym (wide (c .before .before .before .before .before .before .before .before .before .before .before .before .before .before .before .before .before .before .before .before .before .before .before .before .before .before .before .before .before .before .before .before .before .before) .1)
 
-same-length-6 : tie.Need-same-length-6
-same-length-6 c = search needs
+same-length-5 : tie.Need-same-length-5 Inv-loop μ-loop
+same-length-5 c = wide-turned (c .before .before .before .before .before .before .before .before .before .before .before) .2 ∙ sym (wide (c .before .before .before .before .before .before .before .before .before .before .before .before .before .before .before .before .before .before .before .before .before .before .before .before .before .before .before .before .before .before .before .before .before .before) .2)
 
-same-length-7 : tie.Need-same-length-7
-same-length-7 c = search needs
+same-length-6 : tie.Need-same-length-6 Inv-loop μ-loop
+same-length-6 c = wide-turned (c .before .before .before .before .before .before .before .before .before .before .before) .3 ∙ sym (wide (c .before .before .before .before .before .before .before .before .before .before .before .before .before .before .before .before .before .before .before .before .before .before .before .before .before .before .before .before .before .before .before .before .before .before) .3)
 
-same-length-8 : tie.Need-same-length-8
-same-length-8 c = search needs
+same-length-7 : tie.Need-same-length-7 Inv-loop μ-loop
+same-length-7 c = wide-turned (c .before .before .before .before .before .before .before .before .before .before .before) .4 ∙ sym (wide (c .before .before .before .before .before .before .before .before .before .before .before .before .before .before .before .before .before .before .before .before .before .before .before .before .before .before .before .before .before .before .before .before .before .before) .4)
 
-same-length-9 : tie.Need-same-length-9
-same-length-9 c = search needs
+same-length-8 : tie.Need-same-length-8 Inv-loop μ-loop
+same-length-8 c = near-turned (c .before .before .before .before .before .before .before .before .before .before .before) .longs .0 ∙ sym (near (c .before .before .before .before .before .before .before .before .before .before .before .before .before .before .before .before .before .before .before .before .before .before .before .before .before .before .before .before .before .before .before .before .before .before) .longs .0)
 
-same-length-10 : tie.Need-same-length-10
-same-length-10 c = search needs
+same-length-9 : tie.Need-same-length-9 Inv-loop μ-loop
+same-length-9 c = near-turned (c .before .before .before .before .before .before .before .before .before .before .before) .longs .1 ∙ sym (near (c .before .before .before .before .before .before .before .before .before .before .before .before .before .before .before .before .before .before .before .before .before .before .before .before .before .before .before .before .before .before .before .before .before .before) .longs .1)
 
-returns-3 : tie.Need-returns-3
-returns-3 c =
-    let h = c .before .before .before .before .before .before .before .before .before .before .before in
-    let s = begin h in (
-      λ I v. stopped v (some-light (able h)) (giver h) (able h .first-able .ensures) (giver-some h) (went h I v) refl,
-      (
-        λ x. omega (arith, h .hand-over .ensures .1 .0 (c .if3 .taken), counted h),
-        (
-          machines24 s,
-          (let z : length (h .hand-over .last .1 .0) ≡ length (s .args .jobs .now) = search needs in z ∙ jobs200 s),
-          (let z : length (h .hand-over .last .0) ≡ length (s .args .places .now) = search needs in z ∙ places200 s),
-          (let z : length (h .hand-over .last .1 .1 .0) ≡ length (s .args .loads .now) = search needs in z ∙ loads24 s),
-          levels64 s,
-        ),
-        near-turned h,
-      ),
-    )
+same-length-10 : tie.Need-same-length-10 Inv-loop μ-loop
+same-length-10 c = near-turned (c .before .before .before .before .before .before .before .before .before .before .before) .longs .2 ∙ sym (near (c .before .before .before .before .before .before .before .before .before .before .before .before .before .before .before .before .before .before .before .before .before .before .before .before .before .before .before .before .before .before .before .before .before .before) .longs .2)
 
-sub-h : tie.Need-sub-h
-sub-h c = omega (arith, giver-some (c .before .before .before .before .before .before .before .before .before .before .before))
+returns-2 : tie.Need-returns-2 Inv-loop μ-loop
+returns-2 c = (
+  λ I v. step-went (c .before .before .before .before .before .before .before .before .before .before .before) I v,
+  (
+    λ x. omega (arith, c .before .before .before .before .before .before .before .before .before .before .before .hand-over .ensures .1 .0 (c .if2 .taken), counted (c .before .before .before .before .before .before .before .before .before .before .before), c .before .before .before .before .before .before .before .before .before .before .before .before .before .before .before .before .before .before .before .loop .inv .2),
+    wide-turned (c .before .before .before .before .before .before .before .before .before .before .before),
+    near-turned (c .before .before .before .before .before .before .before .before .before .before .before),
+  ),
+)
 
-slice-read-h : tie.Need-slice-read-h
-slice-read-h c = let h = c .before .before .before .before .before .before .before .before .before .before .before .before in omega (arith, giver-some h, giver-in h, few (begin h), machines24 (begin h))
+sub-lift : tie.Need-sub-lift Inv-loop μ-loop
+sub-lift c = omega (arith, giver-some (c .before .before .before .before .before .before .before .before .before .before .before .before .before .before .before .before .before .before .before .before .before .before .before .before))
 
-sub-lift-rows : tie.Need-sub-lift-rows
-sub-lift-rows c = omega (arith, giver-some (c .before .before .before .before .before .before .before .before .before .before .before .before .before .before .before))
+lift-requires : tie.Need-lift-requires Inv-loop μ-loop
+lift-requires c κs = (
+  (_, _, _, _, _, _, _, _, _, _, _, _, idle (c .before .before .before .before .before) (c .before .before .before .before .before .before .before .before .before .before .before .before .before .before .before .before .before .before .before .before .before .before .before .before .before .before .before .before .before .before .before .before .before .before .before .before .before .before .before .pre .0 .0) (known (c .before .before .before .before .before .before .before .before .before .before .before .before .before .before .before .before .before .before .before .before .before .before .before .before .before .before .before .before .before .before .before .before .before .before .before .before .before .before .before)), near-turned (c .before .before .before .before .before .before .before .before .before .before .before .before .before .before .before .before)),
+  c .before .before .before .before .before .before .before .before .before .before .before .before .before .before .before .before .before .before .before .before .before .before .before .before .loop .inv .0 .0,
+)
 
-lift-rows-requires : tie.Need-lift-rows-requires
-lift-rows-requires c κs =
-    let h = c .before .before .before .before .before .before .before .before .before .before .before .before .before .before .before in
-    (omega (arith, giver-some h, giver-in h, few (begin h)), near-turned h .longs .0, near-turned h .longs .1, near-turned h .longs .2)
+add-l : tie.Need-add-l Inv-loop μ-loop
+add-l c = omega (arith, counted (c .before .before .before .before .before .before .before .before .before .before .before .before .before .before .before .before .before .before .before .before .before .before .before .before .before .before .before))
 
-risen-requires : tie.Need-risen-requires
-risen-requires c κs = let r = c .before .before .before .before .before .before in omega (arith, old-le r, low-le r, few (begin (over r)))
+same-length-11 : tie.Need-same-length-11 Inv-loop μ-loop
+same-length-11 c = wide-up (c .before .before .before .before .before .before .before .before .before .before .before) .0 ∙ sym (wide (c .before .before .before .before .before .before .before .before .before .before .before .before .before .before .before .before .before .before .before .before .before .before .before .before .before .before .before .before .before .before .before .before .before .before .before .before .before .before .before .before .before .before .before .before .before .before .before .before .before .before .before) .0)
 
-cast-lift-level : tie.Need-cast-lift-level
-cast-lift-level c = let r = c .before .before .before .before .before .before .before .before in omega (arith, old-le r, low-le r, few (begin (over r)))
+same-length-12 : tie.Need-same-length-12 Inv-loop μ-loop
+same-length-12 c = wide-up (c .before .before .before .before .before .before .before .before .before .before .before) .1 ∙ sym (wide (c .before .before .before .before .before .before .before .before .before .before .before .before .before .before .before .before .before .before .before .before .before .before .before .before .before .before .before .before .before .before .before .before .before .before .before .before .before .before .before .before .before .before .before .before .before .before .before .before .before .before .before) .1)
 
-cast-lift-level-2 : tie.Need-cast-lift-level-2
-cast-lift-level-2 c = search needs
+same-length-13 : tie.Need-same-length-13 Inv-loop μ-loop
+same-length-13 c = wide-up (c .before .before .before .before .before .before .before .before .before .before .before) .2 ∙ sym (wide (c .before .before .before .before .before .before .before .before .before .before .before .before .before .before .before .before .before .before .before .before .before .before .before .before .before .before .before .before .before .before .before .before .before .before .before .before .before .before .before .before .before .before .before .before .before .before .before .before .before .before .before) .2)
 
-lift-level-requires : tie.Need-lift-level-requires
-lift-level-requires c κs =
-    let r = c .before .before .before .before .before .before .before .before in
-    let h = over r in
-    let s = begin h in
-    let e = c .before .risen .ensures in (
-      levels-leveled (known s .tracks .levels),
-      giver-some h,
-      omega (arith, giver-in h, few s),
-      omega (arith, old-le r, low-le r, few s),
-      omega (arith, low-le r, few s, e),
-      λ x. omega (arith, x, old-le r, e),
-    )
+same-length-14 : tie.Need-same-length-14 Inv-loop μ-loop
+same-length-14 c = wide-up (c .before .before .before .before .before .before .before .before .before .before .before) .3 ∙ sym (wide (c .before .before .before .before .before .before .before .before .before .before .before .before .before .before .before .before .before .before .before .before .before .before .before .before .before .before .before .before .before .before .before .before .before .before .before .before .before .before .before .before .before .before .before .before .before .before .before .before .before .before .before) .3)
 
-sub-machines : tie.Need-sub-machines
-sub-machines c = omega (arith, giver-some (c .before .before .before .before .before .before .before .before .before .before .before .before .before .before .before .before .before .before .before .before .before .before .before .before .before .before .before))
+same-length-15 : tie.Need-same-length-15 Inv-loop μ-loop
+same-length-15 c = wide-up (c .before .before .before .before .before .before .before .before .before .before .before) .4 ∙ sym (wide (c .before .before .before .before .before .before .before .before .before .before .before .before .before .before .before .before .before .before .before .before .before .before .before .before .before .before .before .before .before .before .before .before .before .before .before .before .before .before .before .before .before .before .before .before .before .before .before .before .before .before .before) .4)
 
-slice-write-machines : tie.Need-slice-write-machines
-slice-write-machines c = let h = c .before .before .before .before .before .before .before .before .before .before .before .before .before .before .before .before .before .before .before .before .before .before .before .before .before .before .before in omega (arith, giver-some h, giver-in h, few (begin h), machines24 (begin h))
+same-length-16 : tie.Need-same-length-16 Inv-loop μ-loop
+same-length-16 c = rose (c .before .before .before .before .before .before .before .before .before .before .before) (c .before .before .before .before .before .before .before .before .before .before .before .before .before .before .before .before .before .before .before .before .before .before .before .before .before .before .before .before .before .before .before .before .before .before .before .before .before .before .before .before .before .before .before .before .before .before .before .before .before .before .before .pre .0 .0) (known (c .before .before .before .before .before .before .before .before .before .before .before .before .before .before .before .before .before .before .before .before .before .before .before .before .before .before .before .before .before .before .before .before .before .before .before .before .before .before .before .before .before .before .before .before .before .before .before .before .before .before .before)) .1 .longs .0 ∙ sym (near (c .before .before .before .before .before .before .before .before .before .before .before .before .before .before .before .before .before .before .before .before .before .before .before .before .before .before .before .before .before .before .before .before .before .before .before .before .before .before .before .before .before .before .before .before .before .before .before .before .before .before .before) .longs .0)
 
-add-t58 : tie.Need-add-t58
-add-t58 c = omega (arith, small (c .before .before .before .before .before .before .before .before .before .before .before .before .before .before .before .before .before .before .before .before .before .before .before .before .before .before .before .before))
+same-length-17 : tie.Need-same-length-17 Inv-loop μ-loop
+same-length-17 c = rose (c .before .before .before .before .before .before .before .before .before .before .before) (c .before .before .before .before .before .before .before .before .before .before .before .before .before .before .before .before .before .before .before .before .before .before .before .before .before .before .before .before .before .before .before .before .before .before .before .before .before .before .before .before .before .before .before .before .before .before .before .before .before .before .before .pre .0 .0) (known (c .before .before .before .before .before .before .before .before .before .before .before .before .before .before .before .before .before .before .before .before .before .before .before .before .before .before .before .before .before .before .before .before .before .before .before .before .before .before .before .before .before .before .before .before .before .before .before .before .before .before .before)) .1 .longs .1 ∙ sym (near (c .before .before .before .before .before .before .before .before .before .before .before .before .before .before .before .before .before .before .before .before .before .before .before .before .before .before .before .before .before .before .before .before .before .before .before .before .before .before .before .before .before .before .before .before .before .before .before .before .before .before .before) .longs .1)
 
-same-length-11 : tie.Need-same-length-11
-same-length-11 c = search needs
+same-length-18 : tie.Need-same-length-18 Inv-loop μ-loop
+same-length-18 c = rose (c .before .before .before .before .before .before .before .before .before .before .before) (c .before .before .before .before .before .before .before .before .before .before .before .before .before .before .before .before .before .before .before .before .before .before .before .before .before .before .before .before .before .before .before .before .before .before .before .before .before .before .before .before .before .before .before .before .before .before .before .before .before .before .before .pre .0 .0) (known (c .before .before .before .before .before .before .before .before .before .before .before .before .before .before .before .before .before .before .before .before .before .before .before .before .before .before .before .before .before .before .before .before .before .before .before .before .before .before .before .before .before .before .before .before .before .before .before .before .before .before .before)) .1 .longs .2 ∙ sym (near (c .before .before .before .before .before .before .before .before .before .before .before .before .before .before .before .before .before .before .before .before .before .before .before .before .before .before .before .before .before .before .before .before .before .before .before .before .before .before .before .before .before .before .before .before .before .before .before .before .before .before .before) .longs .2)
 
-same-length-12 : tie.Need-same-length-12
-same-length-12 c = search needs
+returns-3 : tie.Need-returns-3 Inv-loop μ-loop
+returns-3 c = (
+  λ I v. far-rose (step-went (c .before .before .before .before .before .before .before .before .before .before .before .before .before .before .before .before .before .before .before .before .before .before .before .before .before .before .before .before) I v) (rose (c .before .before .before .before .before .before .before .before .before .before .before) I v .0) refl,
+  (
+    λ x. omega (arith, counted (c .before .before .before .before .before .before .before .before .before .before .before .before .before .before .before .before .before .before .before .before .before .before .before .before .before .before .before .before), c .before .before .before .before .before .before .before .before .before .before .before .before .before .before .before .before .before .before .before .before .before .before .before .before .before .before .before .before .before .before .before .before .before .before .before .before .loop .inv .2),
+    wide-up (c .before .before .before .before .before .before .before .before .before .before .before),
+    rose (c .before .before .before .before .before .before .before .before .before .before .before) (c .before .before .before .before .before .before .before .before .before .before .before .before .before .before .before .before .before .before .before .before .before .before .before .before .before .before .before .before .before .before .before .before .before .before .before .before .before .before .before .before .before .before .before .before .before .before .before .before .before .before .before .pre .0 .0) (known (c .before .before .before .before .before .before .before .before .before .before .before .before .before .before .before .before .before .before .before .before .before .before .before .before .before .before .before .before .before .before .before .before .before .before .before .before .before .before .before .before .before .before .before .before .before .before .before .before .before .before .before)) .1,
+  ),
+)
 
-same-length-13 : tie.Need-same-length-13
-same-length-13 c = search needs
+loop-less : tie.Need-loop-less Inv-loop μ-loop
+loop-less c = omega (arith, c .before .before .before .before .before .before .before .before .before .before .before .lift .ensures .0, c .if3 .left)
 
-same-length-14 : tie.Need-same-length-14
-same-length-14 c = search needs
-
-same-length-15 : tie.Need-same-length-15
-same-length-15 c = search needs
-
-same-length-16 : tie.Need-same-length-16
-same-length-16 c = search needs
-
-same-length-17 : tie.Need-same-length-17
-same-length-17 c = search needs
-
-same-length-18 : tie.Need-same-length-18
-same-length-18 c = search needs
-
-returns-4 : tie.Need-returns-4
-returns-4 c =
-    let l = c .before .before .before in
-    let e = c .before .before .before .before .before .risen .ensures in
-    let r = c .before .before .before .before .before .before .before .before .before .before .before .before in
-    let h = over r in
-    let s = begin h in (
-      λ I v. rw e (raised v (some-light (able h)) (giver h) (able h .first-able .ensures) (giver-some h) (went h I v) (ended r) (low r) (low-is r)
-          (l .lift-level .last .0)
-          (subst (λ (x : ℕ). Lifted (s .args .levels .now) (l .lift-level .last .0) x (old r) (low r + 1)) (suc-pred (giver h) (giver-some h)) (rw e at (l .lift-level .ensures)))),
-      (
-        λ x. omega (arith, counted h),
-        (
-          length-set (s .args .machines .now) (giver h - 1) _ ∙ machines24 s,
-          (let z : length (h .hand-over .last .1 .0) ≡ length (s .args .jobs .now) = search needs in z ∙ jobs200 s),
-          (let z : length (h .hand-over .last .0) ≡ length (s .args .places .now) = search needs in z ∙ places200 s),
-          (let z : length (h .hand-over .last .1 .1 .0) ≡ length (s .args .loads .now) = search needs in z ∙ loads24 s),
-          l .lift-level .ensures .long ∙ levels64 s,
-        ),
-        rw e (near-up r),
-      ),
-    )
+loop-again : tie.Need-loop-again Inv-loop μ-loop
+loop-again c = (
+  wide-up (c .before .before .before .before .before .before .before .before .before .before .before),
+  rose (c .before .before .before .before .before .before .before .before .before .before .before) (c .before .before .before .before .before .before .before .before .before .before .before .before .before .before .before .before .before .before .before .before .before .before .before .before .before .before .before .before .before .before .before .before .before .before .before .before .before .before .before .before .before .before .before .before .before .before .before .before .before .before .before .pre .0 .0) (known (c .before .before .before .before .before .before .before .before .before .before .before .before .before .before .before .before .before .before .before .before .before .before .before .before .before .before .before .before .before .before .before .before .before .before .before .before .before .before .before .before .before .before .before .before .before .before .before .before .before .before .before)) .1,
+  omega (arith, counted (c .before .before .before .before .before .before .before .before .before .before .before .before .before .before .before .before .before .before .before .before .before .before .before .before .before .before .before .before), c .before .before .before .before .before .before .before .before .before .before .before .before .before .before .before .before .before .before .before .before .before .before .before .before .before .before .before .before .before .before .before .before .before .before .before .before .loop .inv .2),
+  λ I v. far-again (step-went (c .before .before .before .before .before .before .before .before .before .before .before .before .before .before .before .before .before .before .before .before .before .before .before .before .before .before .before .before) I v) (rose (c .before .before .before .before .before .before .before .before .before .before .before) I v .0) (omega (arith, c .before .before .before .before .before .before .before .before .before .before .before .lift .ensures .0, c .if3 .left)),
+)
 
 pub turn-spec : {M : Type 1} → statement M
 turn-spec =
     tie.close
     (tie.spec
+    Inv-loop
+    μ-loop
     mul-top
     cast-top
-    some-at-most-requires
+    whose-requires
     same-length
-    returns
-    first-able-requires
     same-length-2
-    same-length-3
-    returns-2
+    returns
+    loop-holds
     sub-hand-over
     hand-over-requires
+    same-length-3
     same-length-4
     same-length-5
     same-length-6
@@ -375,18 +299,10 @@ turn-spec =
     same-length-8
     same-length-9
     same-length-10
-    returns-3
-    sub-h
-    slice-read-h
-    sub-lift-rows
-    lift-rows-requires
-    risen-requires
-    cast-lift-level
-    cast-lift-level-2
-    lift-level-requires
-    sub-machines
-    slice-write-machines
-    add-t58
+    returns-2
+    sub-lift
+    lift-requires
+    add-l
     same-length-11
     same-length-12
     same-length-13
@@ -395,4 +311,6 @@ turn-spec =
     same-length-16
     same-length-17
     same-length-18
-    returns-4)
+    returns-3
+    loop-less
+    loop-again)
