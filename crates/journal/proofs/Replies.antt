@@ -28,7 +28,7 @@ use Rattle.sheet.proofs.Padded.{length-padded}
 use Rattle.sheet.proofs.Shown.{view-instruments, view-batches, view-valid, view-permitted}
 use Rattle.planner.specs.declared.Tried.{Tried}
 use Rattle.planner.specs.declared.Planned.{Planned}
-use Rattle.planner.specs.declared.review.Reviewed.{Reviewed}
+use Rattle.planner.specs.declared.Reviewed.{Reviewed}
 use Rattle.planner.specs.Calls.{reviewOf, trialOf, planOf, trialAnswer, triedAs}
 use Rattle.planner.specs.Runs.{Reply, edited, Link, editing, reviewing, trying, planning, replyNumbers}
 use Rattle.planner.proofs.Runs.{link-answer, link-next}

@@ -16,7 +16,7 @@ use Rattle.sheet.specs.Represent.{padded, sheetOf}
 use Rattle.sheet.specs.Answers.{numberOf}
 use Rattle.planner.specs.declared.Tried.{Tried}
 use Rattle.planner.specs.declared.Planned.{Planned}
-use Rattle.planner.specs.declared.review.Reviewed.{Reviewed}
+use Rattle.planner.specs.declared.Reviewed.{Reviewed}
 use Rattle.journal.specs.declared.entry.Entry.{Entry}
 use Rattle.journal.specs.declared.call.Made.{Made}
 

@@ -11,11 +11,11 @@ ghost use Rattle.journal.specs.Answering.{editSaid, callSaid, madeWith, 
 use crate::entry::Entry;
 use listing::host::code;
 use planner::Planned;
+use planner::Reviewed;
 use planner::Tried;
 use planner::calls::plan;
 use planner::calls::review;
 use planner::calls::trial;
-use planner::review::Reviewed;
 use sheet::Edited;
 use sheet::Sheet;
 

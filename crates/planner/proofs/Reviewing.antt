@@ -11,7 +11,6 @@ use lib.Dec.{eqb}
 use Rattle.rules.specs.Fold.{pick, at, sumTo, maxTo, firstTo, listTo}
 use Rattle.rules.specs.Instance.{Instance, minutesOf}
 use Rattle.rules.specs.Load.{load, makespan, improves, review}
-use Rattle.theory.proofs.Valid.{Permitted}
 use Rattle.theory.proofs.Fold.{sumTo-ext}
 use Rattle.trials.specs.Reads.{Reads}
 use Rattle.planner.specs.Settling.{Placing, ReviewIs}
@@ -40,10 +39,6 @@ module _ {I : Instance} {m c : ℕ} {lengths sets : List ℕ} (r : Reads I m c l
       h i l v
       ∙ sumTo-ext c _ _ (λ b bl bu. rw (at-take c places b bu, r .minutes b bl bu))
       ∙ ap (λ (k : ℕ). sumTo k (λ b. pick (eqb (at (take c places) b) i) (minutesOf I b) 0)) (sym (r .jobs))
-
-  pub added-placing : (places loads : List ℕ) → Permitted I (take c places) → m ≤ length loads
-      → ((i : ℕ) → 0 < i → i ≤ m → at loads i ≡ sumTo c (λ b. pick (eqb (at places b) i) (at lengths b) 0)) → Placing I m c places loads
-  added-placing places loads w u h = record { permitted = w; long = u; each = added-loads places loads h }
 
   pub review-is : {places loads : List ℕ} (greatest lowest : ℕ) → Placing I m c places loads → greatest ≡ maxTo m (λ i. at loads i)
       → lowest ≡ firstTo c (λ b. improves I (take c places) b) → ReviewIs I m c places loads greatest lowest

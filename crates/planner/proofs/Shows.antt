@@ -33,34 +33,22 @@ use Rattle.planner.proofs.Reviewing.{max-agree, added-loads}
 
 -- ---- minutes in all, and the longest
 
-module _ (I : Instance) {c : ℕ} {lengths : List ℕ} (f : c ≡ n I) (g : lengths ≡ padded 200 (map (λ (j : Job). j .minutes) (I .jobs))) where
-  one : (b : ℕ) → at lengths b ≡ minutesOf I b
-  one b = ap (λ (l : List ℕ). at l b) g ∙ minutes-at I b
-
+module _ {I : Instance} {m c : ℕ} {lengths sets : List ℕ} (r : Reads I m c lengths sets) where
   pub total-is : sumTo c (λ b. at lengths b) ≡ total I
   unfolding total
-  total-is = sumTo-ext c _ _ (λ b p q. one b) ∙ ap (λ (k : ℕ). sumTo k (λ b. minutesOf I b)) f
+  total-is = sumTo-ext c _ _ (r .minutes) ∙ ap (λ (k : ℕ). sumTo k (λ b. minutesOf I b)) (sym (r .jobs))
 
   pub longest-is : maxTo c (λ b. at lengths b) ≡ longest I
   unfolding longest
-  longest-is = max-agree c _ _ (λ b p q. one b) ∙ ap (λ (k : ℕ). maxTo k (λ b. minutesOf I b)) f
+  longest-is = max-agree c _ _ (r .minutes) ∙ ap (λ (k : ℕ). maxTo k (λ b. minutesOf I b)) (sym (r .jobs))
 
-module _ (s : Sheet) (v : Sound s) where
-  pub minutes-long : {lengths : List ℕ} → lengths ≡ padded 200 (map (λ (j : Job). j .minutes) (instance (bookOf s) .jobs)) → length lengths ≡ 200
-  minutes-long g =
-      let l = map (λ (j : Job). j .minutes) (instance (bookOf s) .jobs) in
-      let z : length l ≡ n (instance (bookOf s)) = length-map (instance (bookOf s) .jobs) (λ (j : Job). j .minutes) in
-      ap length g ∙ length-padded 200 l (omega (arith, view-batches s v))
-
-  pub total-few : total (instance (bookOf s)) ≤ 288000
+  pub total-few : total I ≤ 288000
   unfolding total
-  total-few =
-      let h = sumTo-bound (n (instance (bookOf s))) (λ b. minutesOf (instance (bookOf s)) b) 1440 (λ b p q. view-short s v b) in
-      omega (arith, view-batches s v)
+  total-few = omega (arith, sumTo-bound (n I) (λ b. minutesOf I b) 1440 (λ b p q. r .short b), r .jobs, r .most)
 
-  pub longest-few : longest (instance (bookOf s)) ≤ 1440
+  pub longest-few : longest I ≤ 1440
   unfolding longest
-  longest-few = max-le _ _ 1440 (λ b p q. view-short s v b)
+  longest-few = max-le _ _ 1440 (λ b p q. r .short b)
 
 -- ---- the start
 

@@ -24,8 +24,10 @@ use Rattle.sheet.proofs.Shown.{view-instruments, view-batches, view-valid, view
 use Rattle.arrays.specs.Sets.{has, SetOf, SetsOf}
 use Rattle.rules.specs.Sheet.{Book}
 use Rattle.trials.specs.Reads.{Reads}
-use Rattle.planner.specs.declared.review.Reviewed.{Reviewed}
-use Rattle.planner.specs.Settling.{Said, Allowed, ReviewIs}
+use Rattle.planner.specs.declared.Reviewed.{Reviewed}
+use Rattle.planner.specs.declared.laid.Laid.{Laid}
+use Rattle.planner.specs.Laid.{Lays}
+use Rattle.planner.specs.Settling.{Placing, Known, ReviewIs}
 use Rattle.planner.specs.Calls.{reviewOf}
 use Rattle.planner.proofs.Reviewing.{max-agree}
 
@@ -99,12 +101,25 @@ view-place s v e f = rw (e, f) (view-taken s v)
 pub permitted-at : {I : Instance} {x y : List ℕ} → x ≡ y → Permitted I y → Permitted I x
 permitted-at e w = rw e w
 
-pub view-allowed : (s : Sheet) → Sound s → {m c : ℕ} {lengths sets x : List ℕ} → Reads (instance (bookOf s)) m c lengths sets
-    → length lengths ≡ 200 → length sets ≡ 200 → take c x ≡ places (bookOf s) → Allowed m c lengths sets x
-view-allowed s v r l t e = record {
-  said = record { I = instance (bookOf s); reads = r; timed = omega (arith, r .most); listed = omega (arith, r .most) };
-  permitted = permitted-at e (view-permitted s v);
-}
+-- a sheet's arrays, for a search among its jobs
+module _ {k : Book} {a : Laid} (v : Lays k a) where
+  pub lays-placing : Placing (instance k) (a .m) (a .n) (a .places) (a .loads)
+  lays-placing = record {
+    permitted = v .stands .permitted;
+    long = omega (arith, v .stands .reads .few, v .wide .3);
+    each = λ i i0 im. v .stands .kept i i0 (omega (arith, v .stands .reads .machines));
+  }
+
+  pub lays-known : Known (a .m) (a .n) (a .minutes) (a .masks) (a .places) (a .loads)
+  lays-known = record {
+    said = record {
+      I = instance k;
+      reads = v .stands .reads;
+      timed = omega (arith, v .stands .reads .most, v .wide .0);
+      listed = omega (arith, v .stands .reads .most, v .wide .1);
+    };
+    placing = lays-placing;
+  }
 
 -- ---- what is shown
 

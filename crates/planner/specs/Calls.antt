@@ -16,7 +16,7 @@ use Rattle.sheet.specs.Represent.{padded, sheetOf}
 use Rattle.sheet.specs.Answers.{coded}
 use Rattle.planner.specs.declared.Tried.{Tried}
 use Rattle.planner.specs.declared.Planned.{Planned}
-use Rattle.planner.specs.declared.review.Reviewed.{Reviewed}
+use Rattle.planner.specs.declared.Reviewed.{Reviewed}
 
 -- nothing but a refusal
 abbrev pub refusedTrial : Refusal → Tried

@@ -1,5 +1,6 @@
 pub mod Settling
 pub mod Calls
+pub mod Laid
 pub mod Search
 pub mod Drawing
 pub mod Runs

@@ -19,7 +19,7 @@ use Rattle.sheet.specs.Represent.{Sound, sheetOf, bookOf}
 use Rattle.sheet.specs.Answers.{numberOf, editOf}
 use Rattle.planner.specs.declared.Tried.{Tried}
 use Rattle.planner.specs.declared.Planned.{Planned}
-use Rattle.planner.specs.declared.review.Reviewed.{Reviewed}
+use Rattle.planner.specs.declared.Reviewed.{Reviewed}
 use Rattle.planner.specs.Calls.{reviewOf, trialOf, planOf}
 
 -- what a call's function returns

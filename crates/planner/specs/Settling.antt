@@ -78,11 +78,6 @@ pub record Said (m c : ℕ) (lengths sets : List ℕ) : Type 0 where
   pub timed : c ≤ length lengths
   pub listed : c ≤ length sets
 
--- some instance, with a placement
-pub record Allowed (m c : ℕ) (lengths sets places : List ℕ) : Type 0 where
-  pub said : Said m c lengths sets
-  pub permitted : Permitted (said .I) (take c places)
-
 -- some instance, with a placement and its loads
 pub record Known (m c : ℕ) (lengths sets places loads : List ℕ) : Type 0 where
   pub said : Said m c lengths sets

@@ -6,6 +6,7 @@ ghost use Rattle.rules.specs.Instance.{Instance};
 ghost use Rattle.rules.specs.Load.{longest, makespan};
 ghost use Rattle.trials.specs.Attempt.{Standing};
 ghost use Rattle.planner.specs.Search.{learned, opened, Sought};
+use arrays::rows::rows_of;
 use trials::trial::Attempt;
 use trials::trial::try_level;
 
@@ -77,9 +78,10 @@ pub fn balance(
         lifts: 0,
         pushes: 0,
     };
+    let rows = rows_of(&places, n);
     while s.failed1 < s.level {
         let a = (s.failed1 + s.level - 1) / 2;
-        let t = try_level(places, loads, minutes, masks, m, n, a, a + most);
+        let t = try_level(places, loads, rows, minutes, masks, m, n, a, a + most);
         s = learn(s, a, t);
     }
     s

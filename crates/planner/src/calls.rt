@@ -5,14 +5,15 @@ ghost use lib.ListN.{take, length};
 ghost use Rattle.sheet.specs.Represent.{Sound, bookOf, padded};
 ghost use Rattle.planner.specs.Calls.{trialOf, reviewOf, planOf};
 use crate::Planned;
+use crate::Reviewed;
 use crate::Tried;
+use crate::laid::lay;
 use crate::plan::draw;
-use crate::review::Reviewed;
-use crate::review::review_of;
+use crate::settle::first_improving;
+use arrays::rows::rows_of;
 use arrays::scan::largest;
-use arrays::scan::loads_of;
+use arrays::scan::largest_load;
 use arrays::scan::total;
-use arrays::setup::masks_of;
 use sheet::Refusal;
 use sheet::Sheet;
 use trials::group::members_of;
@@ -37,13 +38,18 @@ pub fn review(sheet: Sheet) -> Reviewed
     requires { ⌜ Sound sheet ⌝ }
     ensures { λ r. ⌜ r ≡ reviewOf (bookOf sheet) ⌝ }
 {
-    let m = sheet.instruments();
-    let n = sheet.batches();
-    let minutes = sheet.minutes();
-    let places = sheet.places();
-    let eligible = sheet.eligibility();
-    let masks = masks_of(&eligible, n, m);
-    review_of(places, &minutes, &masks, n, m)
+    let a = lay(sheet);
+    let minutes = a.minutes;
+    let masks = a.masks;
+    let places = a.places;
+    let loads = a.loads;
+    let makespan = largest_load(&loads, a.m);
+    let improving = first_improving(&loads, &places, &minutes, &masks, a.n, a.m);
+    Reviewed {
+        loads,
+        makespan,
+        improving,
+    }
 }
 
 // One trial at a level; a level above the total minutes is refused.
@@ -51,10 +57,9 @@ pub fn trial(sheet: Sheet, level: u32) -> Tried
     requires { ⌜ Sound sheet ⌝ }
     ensures { λ r. ⌜ r ≡ trialOf (bookOf sheet) level ⌝ }
 {
-    let m = sheet.instruments();
-    let n = sheet.batches();
-    let minutes = sheet.minutes();
-    if total(&minutes, n) < level {
+    let a = lay(sheet);
+    let minutes = a.minutes;
+    if total(&minutes, a.n) < level {
         return Tried {
             refusal: Refusal::LevelAbove,
             passed: false,
@@ -65,15 +70,25 @@ pub fn trial(sheet: Sheet, level: u32) -> Tried
             group: [0u8; 24],
         };
     }
-    let places = sheet.places();
-    let eligible = sheet.eligibility();
-    let masks = masks_of(&eligible, n, m);
-    let loads = loads_of(&minutes, &places, n, m);
-    let limit = level + largest(&minutes, n);
-    let t = try_level(places, loads, &minutes, &masks, m, n, level, limit);
+    let masks = a.masks;
+    let places = a.places;
+    let loads = a.loads;
+    let limit = level + largest(&minutes, a.n);
+    let rows = rows_of(&places, a.n);
+    let t = try_level(
+        places,
+        loads,
+        rows,
+        &minutes,
+        &masks,
+        a.m,
+        a.n,
+        level,
+        limit,
+    );
     if t.passed {
         let kept = t.places;
-        let shown = front(kept, n);
+        let shown = front(kept, a.n);
         return Tried {
             refusal: Refusal::Nothing,
             passed: true,
@@ -84,7 +99,7 @@ pub fn trial(sheet: Sheet, level: u32) -> Tried
             group: [0u8; 24],
         };
     }
-    let g = members_of(t.group, m);
+    let g = members_of(t.group, a.m);
     let list = g.list;
     Tried {
         refusal: Refusal::Nothing,
@@ -102,14 +117,12 @@ pub fn plan(sheet: Sheet) -> Planned
     requires { ⌜ Sound sheet ⌝ }
     ensures { λ r. ⌜ r ≡ planOf (bookOf sheet) ⌝ }
 {
-    let m = sheet.instruments();
-    let n = sheet.batches();
-    let minutes = sheet.minutes();
-    let places = sheet.places();
-    let eligible = sheet.eligibility();
-    let masks = masks_of(&eligible, n, m);
-    let loads = loads_of(&minutes, &places, n, m);
-    let d = draw(places, loads, &minutes, &masks, m, n);
+    let a = lay(sheet);
+    let minutes = a.minutes;
+    let masks = a.masks;
+    let places = a.places;
+    let loads = a.loads;
+    let d = draw(places, loads, &minutes, &masks, a.m, a.n);
     let list = d.group;
     let end = d.places;
     let after = sheet.with_places(end);

@@ -4,9 +4,17 @@ use sheet::Sheet;
 
 pub mod balance;
 pub mod calls;
+pub mod laid;
 pub mod plan;
-pub mod review;
 pub mod settle;
+
+// What a review answers: the load of each machine, 0 past the last, the greatest, and the lowest job that would finish earlier
+// elsewhere, 0 where none would.
+pub struct Reviewed {
+    pub loads: [u32; 24],
+    pub makespan: u32,
+    pub improving: usize,
+}
 
 // What a trial answers: its refusal, or Nothing; pass or failure; lifts and pushes; and the places of a pass, or the group of a
 // failure with its size. Whatever is not said is 0.

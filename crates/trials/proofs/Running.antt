@@ -7,7 +7,7 @@ use mathlib.Core.List.{List}
 use native.Mathlib.Omega.{arith}
 use Rattle.rules.specs.Fold.{pick}
 use lib.ListN.{getD}
-use Rattle.rules.specs.Instance.{Instance, n}
+use Rattle.rules.specs.Instance.{Instance}
 use Rattle.theory.proofs.Iterate.{here, leads-trans}
 use Rattle.theory.proofs.Lifts.{lifts-bound}
 use Rattle.theory.proofs.Pushes.{pushes-bound}
@@ -16,7 +16,6 @@ use Rattle.trials.specs.Track.{stateWith, arrays, Setup, Tracks, Steppin
 use Rattle.theory.proofs.Heights.{at-zeros}
 use Rattle.trials.specs.Attempt.{Fresh}
 use Rattle.trials.specs.Near.{Flat}
-use Rattle.trials.proofs.Take.{at-take}
 use Rattle.trials.proofs.Stepping.{plain, track-plain, stepped, leads-of}
 use Rattle.trials.proofs.Giving.{lift-bound-small, push-bound-small}
 
@@ -66,17 +65,6 @@ pub from-plain : {I : Instance} {a limit m c : ℕ} {lengths sets : List ℕ} {t
 from-plain v f =
     let k = f (record { setup = v .setup; tracks = track-plain (v .tracks) }) in
     stepped (leads-of k) (k .tracks) (k .rests)
-
--- every job is on one of 24 machines
-pub places-in : {I : Instance} {a limit m c : ℕ} {lengths sets : List ℕ} {t : State} → Stepping I a limit m c lengths sets t
-    → (b : ℕ) → b < c → (0 < getD (t .places) b 0) × (getD (t .places) b 0 ≤ 24)
-places-in {I} {t = t} v b l =
-    let r = v .setup .reads in
-    let q : suc b ≤ n I = omega (arith, l, r .jobs) in
-    let e = at-take (n I) (t .places) (suc b) q in
-    let p = v .tracks .placed (suc b) (omega arith) q in
-    let z : 0 < getD (t .places) b 0 = omega (arith, p, e) in
-    (z, omega (arith, r .valid .ranged (suc b) (getD (t .places) b 0) (v .tracks .counted .shape .listed (suc b) (getD (t .places) b 0) z e) .1, r .machines, r .few))
 
 -- a first state is flat
 pub fresh-flat : {places loads : List ℕ} {m : ℕ} {t : State} → Fresh places loads m t → Flat t

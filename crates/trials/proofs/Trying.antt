@@ -5,7 +5,7 @@ use mathlib.Core.Path.{_≡_, refl, sym, ap, subst, _∙_}
 use mathlib.Core.Bool.{Bool, true, false, true≢false}
 use mathlib.Core.List.{List}
 use native.Mathlib.Omega.{arith}
-use lib.ListN.{length, take}
+use lib.ListN.{length, take, getD}
 use lib.Dec.{ltb, leb}
 use borrow.Author.Tests.{leb-true, leb-false}
 use Rattle.rules.specs.Fold.{at, mem, firstTo, anyTo, thoseTo}
@@ -17,7 +17,7 @@ use Rattle.rules.specs.Group.{group, closure, passed, failed, trial}
 use Rattle.theory.proofs.Logic.{byTest}
 use Rattle.theory.proofs.View.{First, first}
 use Rattle.theory.proofs.Those.{those-mem, those-range}
-use Rattle.theory.proofs.Valid.{Permitted}
+use Rattle.theory.proofs.Valid.{Permitted, on-machine}
 use Rattle.theory.proofs.Closure.{IsGroup, those, closure-group}
 use Rattle.theory.proofs.Trial.{trial-permitted}
 use Rattle.trials.specs.declared.State.{State}
@@ -25,7 +25,16 @@ use Rattle.arrays.specs.Sets.{SetOf}
 use Rattle.trials.specs.Track.{stateOf, Ended}
 use Rattle.trials.specs.Attempt.{Fresh, Standing, Tries}
 use Rattle.arrays.proofs.Masks.{set-same}
+use Rattle.trials.proofs.Take.{at-take}
 use Rattle.trials.proofs.Verdict.{end-is, passes-by, fails-by, group-all, group-closure}
+
+-- every job is on one of 24 machines
+pub places-in : {I : Instance} {m c : ℕ} {lengths sets places loads : List ℕ} → Standing I m c lengths sets places loads
+    → (b : ℕ) → b < c → (0 < getD places b 0) × (getD places b 0 ≤ 24)
+places-in {c = c} {places = places} w b l =
+    let z = on-machine (w .reads .valid) (w .permitted) (suc b) (omega arith) (omega (arith, w .reads .jobs)) in
+    let e = at-take c places (suc b) l in
+    (omega (arith, z .0, e), omega (arith, z .1, e, w .reads .machines, w .reads .few))
 
 -- the list of all machines names exactly 1 to m
 all-mem : (m i : ℕ) → 0 < i → mem i (thoseTo m (λ j. true)) ≡ leb i m

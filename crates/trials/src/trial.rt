@@ -5,6 +5,7 @@ ghost use Prim.Native.Nat.{ℕ, _+_, _≤_, _<_};
 ghost use lib.ListN.{length, take};
 ghost use lib.Dec.{leb};
 ghost use Rattle.rules.specs.Instance.{Instance};
+ghost use Rattle.arrays.specs.Rows.{Entered};
 ghost use Rattle.arrays.specs.Sets.{SetOf};
 ghost use Rattle.trials.specs.Track.{Stepping, Ends};
 ghost use Rattle.trials.specs.Near.{Flat};
@@ -14,7 +15,6 @@ use crate::State;
 use crate::group::all_machines;
 use crate::group::closure_of;
 use crate::step::step;
-use arrays::rows::rows_of;
 use arrays::scan::some_at_most;
 use arrays::setup::first_over;
 
@@ -47,15 +47,23 @@ fn begin(places: [u8; 200], loads: [u32; 24], m: usize, full: u32) -> State
     }
 }
 
-// Steps until nothing acts.
-fn run(t: State, minutes: &[u16], masks: &[u32], m: usize, n: usize, a: u32, limit: u32) -> State
+// Steps until nothing acts. `rows` has the jobs on each machine at first.
+fn run(
+    t: State,
+    rows: [u64; 96],
+    minutes: &[u16],
+    masks: &[u32],
+    m: usize,
+    n: usize,
+    a: u32,
+    limit: u32,
+) -> State
     requires { ⌜ ((I : Instance) × Stepping I a limit m n (now minutes) (now masks) t) ⌝ }
-    requires { ⌜ (n ≤ length (now minutes)) × (n ≤ length (now masks)) × (t .resting ≡ false) × Flat t ⌝ }
+    requires { ⌜ (n ≤ length (now minutes)) × (n ≤ length (now masks)) × (t .resting ≡ false) × Flat t × Entered (t .places) n rows ⌝ }
     ensures { λ r. ⌜ Ends a limit m n (now (minutes .entry)) (now (masks .entry)) t r ⌝ }
 {
-    let first = t.places;
     let mut below = [0u64; 96];
-    let mut level = rows_of(&first, n);
+    let mut level = rows;
     let mut above = [0u64; 96];
     let mut s = t;
     while !s.resting {
@@ -75,10 +83,11 @@ fn run(t: State, minutes: &[u16], masks: &[u32], m: usize, n: usize, a: u32, lim
     s
 }
 
-// One trial from these places, at level a, where limit is a plus the longest length.
+// One trial from these places, at level a, where limit is a plus the longest length. `rows` has the jobs on each machine.
 pub fn try_level(
     places: [u8; 200],
     loads: [u32; 24],
+    rows: [u64; 96],
     minutes: &[u16],
     masks: &[u32],
     m: usize,
@@ -87,13 +96,13 @@ pub fn try_level(
     limit: u32,
 ) -> Attempt
     requires { ⌜ ((I : Instance) × Standing I m n (now minutes) (now masks) places loads × (limit ≡ a + longest I)) ⌝ }
-    requires { ⌜ (n ≤ length (now minutes)) × (n ≤ length (now masks)) ⌝ }
+    requires { ⌜ (n ≤ length (now minutes)) × (n ≤ length (now masks)) × Entered places n rows ⌝ }
     ensures { λ r. ⌜ ((I : Instance) → Standing I m n (now (minutes .entry)) (now (masks .entry)) places loads → limit ≡ a + longest I
         → Tries I (take n places) a n (r .places) (r .loads) (r .passed) (r .group) (r .lifts) (r .pushes)) ⌝ }
 {
     let full = all_machines(m);
     let first = begin(places, loads, m, full);
-    let s = run(first, minutes, masks, m, n, a, limit);
+    let s = run(first, rows, minutes, masks, m, n, a, limit);
     let end = s.places;
     let left = s.loads;
     let over = first_over(&left, m, limit);

@@ -11,7 +11,7 @@ use Rattle.trials.specs.Near.{Near}
 use Rattle.trials.specs.Track.{Stepping, Stepped}
 use Rattle.arrays.proofs.Entering.{zeros-none}
 use Rattle.trials.proofs.Near.{near-start}
-use Rattle.trials.proofs.Running.{left, few-steps, none-yet, one-more, at-end, nearer, places-in}
+use Rattle.trials.proofs.Running.{left, few-steps, none-yet, one-more, at-end, nearer}
 use Rattle.trials.proofs.trial.run.Statement.{statement}
 use Rattle.trials.proofs.trial.run.Tie as tie
 
@@ -22,20 +22,12 @@ Inv-loop minutes masks m n a limit below₀ level₀ above₀ s₀ below level a
 abbrev μ-loop : tie.MeasureT-loop
 μ-loop minutes masks m n a limit below₀ level₀ above₀ s₀ below level above s = left s
 
-slice-aggregate-rows-of : tie.Need-slice-aggregate-rows-of Inv-loop μ-loop
-slice-aggregate-rows-of c = search needs
-
-rows-of-requires : tie.Need-rows-of-requires Inv-loop μ-loop
-rows-of-requires c κs =
-    let v = c .before .before .before .before .pre .0 .1 in
-    let z : length (c .before .before .before .before .args .t .places) ≡ 200 = search needs in
-    (v .setup .reads .most, omega (arith, v .setup .reads .most), places-in v)
-
 loop-holds : tie.Need-loop-holds Inv-loop μ-loop
-loop-holds c = (
-  λ I v. none-yet (v .tracks) (c .before .before .before .before .before .pre .1 .2),
-  near-start _ _ _ _ _ _ (c .rows-of .ensures .long) (search needs) (c .rows-of .ensures .each) (λ i b il bl. zeros-none i b) (c .before .before .before .before .before .pre .1 .3 .0) (c .before .before .before .before .before .pre .1 .3 .1),
-)
+loop-holds c =
+    let s = c .before .before in (
+      λ I v. none-yet (v .tracks) (s .pre .1 .2),
+      near-start _ _ _ _ _ _ (s .pre .1 .4 .long) (search needs) (s .pre .1 .4 .each) (λ i b il bl. zeros-none i b) (s .pre .1 .3 .0) (s .pre .1 .3 .1),
+    )
 
 slice-aggregate-step : tie.Need-slice-aggregate-step Inv-loop μ-loop
 slice-aggregate-step c = sym (c .before .before .before .loop .inv .1 .longs .0)
@@ -48,7 +40,7 @@ slice-aggregate-step-3 c = sym (c .before .before .before .before .before .loop 
 
 step-requires : tie.Need-step-requires Inv-loop μ-loop
 step-requires c κs =
-    let s = c .before .before .before .before .before .before .before .before .before .before .before in
+    let s = c .before .before .before .before .before .before .before .before in
     let k = c .before .before .before .before .before .loop .inv .0 (s .pre .0 .0) (s .pre .0 .1) in (
       (s .pre .0 .0, record { setup = s .pre .0 .1 .setup; tracks = k .tracks }),
       (s .pre .1 .0, s .pre .1 .1, not-true _ (c .before .before .before .if1 .taken), c .before .before .before .before .before .loop .inv .1),
@@ -56,7 +48,7 @@ step-requires c κs =
 
 loop-less : tie.Need-loop-less Inv-loop μ-loop
 loop-less c =
-    let s = c .before .before .before .before .before .before .before .before .before .before .before .before .before .before .before in
+    let s = c .before .before .before .before .before .before .before .before .before .before .before .before in
     nearer (c .before .before .before .before .before .before .before .before .before .loop .s) (c .before .before .before .step .result) (not-true _ (c .before .before .before .before .before .before .before .if1 .taken))
     (few-steps (c .before .before .before .before .before .before .before .before .before .loop .s) (s .pre .0 .1 .setup) (c .before .before .before .before .before .before .before .before .before .loop .inv .0 (s .pre .0 .0) (s .pre .0 .1) .tracks)) (c .before .before .before .step .ensures .1 .0)
 
@@ -75,8 +67,6 @@ run-spec =
     (tie.spec
     Inv-loop
     μ-loop
-    slice-aggregate-rows-of
-    rows-of-requires
     loop-holds
     slice-aggregate-step
     slice-aggregate-step-2

@@ -76,7 +76,7 @@ begin-requires c κs = search needs
 run-requires : tie.Need-run-requires
 run-requires c κs = (
   (inst (c .before .before .before .before), begins (known (c .before .before .before .before)) (c .before .before .before .before .args .a) (c .before .before .before .before .args .limit) (c .before .before .before .before .pre .0 .2) (c .begin .ensures)),
-  (c .before .before .before .before .pre .1 .0, c .before .before .before .before .pre .1 .1, c .begin .ensures .acting, fresh-flat (c .begin .ensures)),
+  (c .before .before .before .before .pre .1 .0, c .before .before .before .before .pre .1 .1, c .begin .ensures .acting, fresh-flat (c .begin .ensures), rw (c .begin .ensures .same) (c .before .before .before .before .pre .1 .2)),
 )
 
 slice-aggregate-first-over : tie.Need-slice-aggregate-first-over

@@ -1,0 +1,17 @@
+-- A sheet in arrays.
+-- Assumes nothing.
+use Prim.Native.Nat.{ℕ, _≤_, _<_}
+use mathlib.Core.Path.{_≡_}
+use lib.ListN.{length, take}
+use Rattle.rules.specs.Fold.{at}
+use Rattle.rules.specs.Sheet.{Book}
+use Rattle.rules.specs.Instance.{instance, places}
+use Rattle.trials.specs.Attempt.{Standing}
+use Rattle.planner.specs.declared.laid.Laid.{Laid}
+
+-- the arrays say the book's instance, its places and their loads
+pub record Lays (k : Book) (a : Laid) : Type 0 where
+  pub stands : Standing (instance k) (a .m) (a .n) (a .minutes) (a .masks) (a .places) (a .loads)
+  pub shown : take (a .n) (a .places) ≡ places k
+  pub wide : (length (a .minutes) ≡ 200) × (length (a .masks) ≡ 200) × (length (a .places) ≡ 200) × (length (a .loads) ≡ 24)
+  pub rest : (i : ℕ) → a .m < i → i ≤ 24 → at (a .loads) i ≡ 0
