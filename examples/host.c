@@ -107,7 +107,7 @@ static int print(const uint8_t *text, size_t length)
 static int plan(const char *name, const struct bytes *sheet)
 {
     uint8_t listing[BANKPLAN_LARGEST_LISTING];
-    bankplan_planned planned;
+    bankplan_answer planned;
 
     planned = bankplan_plan(sheet->at, sheet->length, listing, sizeof listing);
     if (planned.refusal != BANKPLAN_NO_REFUSAL) {
@@ -122,7 +122,7 @@ static int run(const char *sheet_name, const struct bytes *sheet, const char *jo
 {
     size_t room = 256;
     uint8_t *answers = malloc(room);
-    bankplan_ran ran;
+    bankplan_answer ran;
     int good = 0;
 
     if (answers == NULL) {

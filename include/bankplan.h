@@ -60,19 +60,12 @@ enum bankplan_refusal {
     BANKPLAN_BAD_JOURNAL = 19  /* the journal is not of its form */
 };
 
-/* What bankplan_plan answers. */
-typedef struct bankplan_planned {
-    uint32_t refusal; /* 0, 1 to 5, or 9 */
-    uint32_t line;    /* the sheet's line of refusals 1 to 5, from 1; otherwise 0 */
-    size_t length;    /* the listing's bytes; 0 on a refusal */
-} bankplan_planned;
-
-/* What bankplan_run answers. */
-typedef struct bankplan_ran {
-    uint32_t refusal; /* 0, 1 to 5, 9 or 19 */
+/* What both calls answer. */
+typedef struct bankplan_answer {
+    uint32_t refusal; /* 0 for none, 1 to 5, or 9; from bankplan_run also 19 */
     size_t line;      /* the sheet's line of refusals 1 to 5, the journal's of 19, both from 1; otherwise 0 */
-    size_t length;    /* the answers' bytes; 0 on a refusal */
-} bankplan_ran;
+    size_t length;    /* the bytes written; 0 on a refusal */
+} bankplan_answer;
 
 /*
  * Plans a sheet, and writes its listing at the front of the lent buffer.
@@ -86,7 +79,7 @@ typedef struct bankplan_ran {
  *
  * The first fault in the sheet decides which of 1 to 5 is answered; 9 comes only for a sheet without a fault.
  */
-bankplan_planned bankplan_plan(const uint8_t *sheet, size_t sheet_length, uint8_t *listing, size_t listing_length);
+bankplan_answer bankplan_plan(const uint8_t *sheet, size_t sheet_length, uint8_t *listing, size_t listing_length);
 
 /*
  * Makes a journal's calls on a sheet, each on the sheet that the one before it left, and writes their answers at the front of the lent
@@ -116,8 +109,8 @@ bankplan_planned bankplan_plan(const uint8_t *sheet, size_t sheet_length, uint8_
  * The order of refusals: 1 to 5 for the sheet, then 19 for the journal, then 9. A journal is judged whole before its first call is made. On
  * 9, call again with a larger buffer: the answers are the same.
  */
-bankplan_ran bankplan_run(const uint8_t *sheet, size_t sheet_length, const uint8_t *journal, size_t journal_length,
-                          uint8_t *answers, size_t answers_length);
+bankplan_answer bankplan_run(const uint8_t *sheet, size_t sheet_length, const uint8_t *journal, size_t journal_length,
+                             uint8_t *answers, size_t answers_length);
 
 #ifdef __cplusplus
 }

@@ -8,8 +8,7 @@
 
 #include "bankplan.h"
 
-_Static_assert(sizeof(bankplan_planned) == 16, "two words of 32 bits and one of 64");
-_Static_assert(sizeof(bankplan_ran) == 24, "three words of 64 bits, the first half used");
+_Static_assert(sizeof(bankplan_answer) == 24, "three words of 64 bits, the first half used");
 
 #define ROOM 8192
 #define UNTOUCHED 0xA5
@@ -41,26 +40,21 @@ static int holds(const char *text)
     return 1;
 }
 
-static bankplan_planned plan(const char *sheet, size_t room)
+static bankplan_answer plan(const char *sheet, size_t room)
 {
     memset(buffer, UNTOUCHED, ROOM);
     return bankplan_plan((const uint8_t *)sheet, strlen(sheet), buffer, room);
 }
 
-static bankplan_ran run(const char *sheet, const char *journal, size_t room)
+static bankplan_answer run(const char *sheet, const char *journal, size_t room)
 {
     memset(buffer, UNTOUCHED, ROOM);
     return bankplan_run((const uint8_t *)sheet, strlen(sheet), (const uint8_t *)journal, strlen(journal), buffer, room);
 }
 
-static int planned(bankplan_planned p, uint32_t refusal, uint32_t line, size_t length)
+static int answered(bankplan_answer a, uint32_t refusal, size_t line, size_t length)
 {
-    return p.refusal == refusal && p.line == line && p.length == length;
-}
-
-static int ran(bankplan_ran r, uint32_t refusal, size_t line, size_t length)
-{
-    return r.refusal == refusal && r.line == line && r.length == length;
+    return a.refusal == refusal && a.line == line && a.length == length;
 }
 
 static const char sheet[] = "     2     3\n"
@@ -83,15 +77,15 @@ static const char answers[] = "     0\n"
 
 static void sheets(void)
 {
-    CHECK(planned(plan(sheet, ROOM), 0, 0, strlen(listing)) && holds(listing));
-    CHECK(planned(plan(too_long, ROOM), BANKPLAN_BAD_LENGTH, 2, 0) && holds(""));
-    CHECK(planned(plan("", ROOM), BANKPLAN_MALFORMED, 1, 0) && holds(""));
-    CHECK(planned(plan("     2     1\n", ROOM), BANKPLAN_MALFORMED, 2, 0) && holds(""));
-    CHECK(planned(plan("    25     0\n", ROOM), BANKPLAN_BAD_SIZE, 1, 0) && holds(""));
-    CHECK(planned(plan("     2     1\n    10     0     2     1     1\n", ROOM), BANKPLAN_BAD_LIST, 2, 0) && holds(""));
-    CHECK(planned(plan("     2     1\n    10     2     1     1\n", ROOM), BANKPLAN_BAD_PLACE, 2, 0) && holds(""));
+    CHECK(answered(plan(sheet, ROOM), 0, 0, strlen(listing)) && holds(listing));
+    CHECK(answered(plan(too_long, ROOM), BANKPLAN_BAD_LENGTH, 2, 0) && holds(""));
+    CHECK(answered(plan("", ROOM), BANKPLAN_MALFORMED, 1, 0) && holds(""));
+    CHECK(answered(plan("     2     1\n", ROOM), BANKPLAN_MALFORMED, 2, 0) && holds(""));
+    CHECK(answered(plan("    25     0\n", ROOM), BANKPLAN_BAD_SIZE, 1, 0) && holds(""));
+    CHECK(answered(plan("     2     1\n    10     0     2     1     1\n", ROOM), BANKPLAN_BAD_LIST, 2, 0) && holds(""));
+    CHECK(answered(plan("     2     1\n    10     2     1     1\n", ROOM), BANKPLAN_BAD_PLACE, 2, 0) && holds(""));
     /* a sheet's fault comes before a short buffer */
-    CHECK(planned(plan(too_long, 0), BANKPLAN_BAD_LENGTH, 2, 0) && holds(""));
+    CHECK(answered(plan(too_long, 0), BANKPLAN_BAD_LENGTH, 2, 0) && holds(""));
 }
 
 static void short_buffers(void)
@@ -99,24 +93,24 @@ static void short_buffers(void)
     size_t room;
 
     for (room = 0; room < strlen(listing); room++)
-        CHECK(planned(plan(sheet, room), BANKPLAN_BUFFER_SHORT, 0, 0) && holds(""));
-    CHECK(planned(plan(sheet, strlen(listing)), 0, 0, strlen(listing)) && holds(listing));
+        CHECK(answered(plan(sheet, room), BANKPLAN_BUFFER_SHORT, 0, 0) && holds(""));
+    CHECK(answered(plan(sheet, strlen(listing)), 0, 0, strlen(listing)) && holds(listing));
     for (room = 0; room < strlen(answers); room++)
-        CHECK(ran(run(sheet, journal, room), BANKPLAN_BUFFER_SHORT, 0, 0) && holds(""));
-    CHECK(ran(run(sheet, journal, strlen(answers)), 0, 0, strlen(answers)) && holds(answers));
+        CHECK(answered(run(sheet, journal, room), BANKPLAN_BUFFER_SHORT, 0, 0) && holds(""));
+    CHECK(answered(run(sheet, journal, strlen(answers)), 0, 0, strlen(answers)) && holds(answers));
 }
 
 static void journals(void)
 {
-    CHECK(ran(run(sheet, journal, ROOM), 0, 0, strlen(answers)) && holds(answers));
-    CHECK(ran(run(sheet, "", 0), 0, 0, 0) && holds(""));
-    CHECK(ran(run(sheet, "     5\n     7\n     8\n", ROOM), BANKPLAN_BAD_JOURNAL, 3, 0) && holds(""));
-    CHECK(ran(run(sheet, "     5\n     7", ROOM), BANKPLAN_BAD_JOURNAL, 2, 0) && holds(""));
-    CHECK(ran(run(sheet, "     5     0\n", ROOM), BANKPLAN_BAD_JOURNAL, 1, 0) && holds(""));
-    CHECK(ran(run(sheet, "     1    10     2     1\n", ROOM), BANKPLAN_BAD_JOURNAL, 1, 0) && holds(""));
+    CHECK(answered(run(sheet, journal, ROOM), 0, 0, strlen(answers)) && holds(answers));
+    CHECK(answered(run(sheet, "", 0), 0, 0, 0) && holds(""));
+    CHECK(answered(run(sheet, "     5\n     7\n     8\n", ROOM), BANKPLAN_BAD_JOURNAL, 3, 0) && holds(""));
+    CHECK(answered(run(sheet, "     5\n     7", ROOM), BANKPLAN_BAD_JOURNAL, 2, 0) && holds(""));
+    CHECK(answered(run(sheet, "     5     0\n", ROOM), BANKPLAN_BAD_JOURNAL, 1, 0) && holds(""));
+    CHECK(answered(run(sheet, "     1    10     2     1\n", ROOM), BANKPLAN_BAD_JOURNAL, 1, 0) && holds(""));
     /* a sheet's fault comes before a journal's, and that before a short buffer */
-    CHECK(ran(run(too_long, "\n", ROOM), BANKPLAN_BAD_LENGTH, 2, 0) && holds(""));
-    CHECK(ran(run(sheet, "\n", 0), BANKPLAN_BAD_JOURNAL, 1, 0) && holds(""));
+    CHECK(answered(run(too_long, "\n", ROOM), BANKPLAN_BAD_LENGTH, 2, 0) && holds(""));
+    CHECK(answered(run(sheet, "\n", 0), BANKPLAN_BAD_JOURNAL, 1, 0) && holds(""));
 }
 
 /* 200 batches that any of 24 instruments may run: the largest listing, and a trial's answer with 200 places, which is the longest. */
@@ -133,10 +127,10 @@ static void largest(void)
             to += sprintf(to, "%6d", instrument);
         to += sprintf(to, "\n");
     }
-    CHECK(planned(plan(full, BANKPLAN_LARGEST_LISTING - 1), BANKPLAN_BUFFER_SHORT, 0, 0) && holds(""));
-    CHECK(planned(plan(full, BANKPLAN_LARGEST_LISTING), 0, 0, BANKPLAN_LARGEST_LISTING));
-    CHECK(ran(run(full, "     6288000\n", BANKPLAN_LONGEST_ANSWER - 1), BANKPLAN_BUFFER_SHORT, 0, 0) && holds(""));
-    CHECK(ran(run(full, "     6288000\n", BANKPLAN_LONGEST_ANSWER), 0, 0, BANKPLAN_LONGEST_ANSWER));
+    CHECK(answered(plan(full, BANKPLAN_LARGEST_LISTING - 1), BANKPLAN_BUFFER_SHORT, 0, 0) && holds(""));
+    CHECK(answered(plan(full, BANKPLAN_LARGEST_LISTING), 0, 0, BANKPLAN_LARGEST_LISTING));
+    CHECK(answered(run(full, "     6288000\n", BANKPLAN_LONGEST_ANSWER - 1), BANKPLAN_BUFFER_SHORT, 0, 0) && holds(""));
+    CHECK(answered(run(full, "     6288000\n", BANKPLAN_LONGEST_ANSWER), 0, 0, BANKPLAN_LONGEST_ANSWER));
 }
 
 int main(void)

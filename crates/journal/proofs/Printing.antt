@@ -19,8 +19,9 @@ use Rattle.rules.specs.Listing.{Hosted, intoBuffer}
 use Rattle.sheet.proofs.Accepted.{refused-line}
 use Rattle.sheet.proofs.Longest.{read-bounded}
 use Rattle.listing.proofs.Fields.{line-length}
-use Rattle.journal.specs.declared.run.Ran.{Ran}
-use Rattle.journal.specs.Running.{ranAs, printedOf}
+use Rattle.listing.specs.declared.host.Hosted as C
+use Rattle.listing.specs.Host.{hostedOf}
+use Rattle.journal.specs.Running.{printedOf}
 use Rattle.journal.proofs.Fitting.{refusal-small}
 use Rattle.journal.proofs.Hosting.{Numbered, formed, fault, journal-numbered}
 
@@ -50,14 +51,14 @@ module _ (s j buffer : List ℕ) (short : length j < 999999) where
 
   -- ---- as the code has it
 
-  module _ (r : Ran) (after : List ℕ) (e : ranAs r after ≡ runHost s j buffer) where
-    pub ran-modest : Modest (length buffer) (ranAs r after)
+  module _ (r : C.Hosted) (after : List ℕ) (e : hostedOf r after ≡ runHost s j buffer) where
+    pub ran-modest : Modest (length buffer) (hostedOf r after)
     ran-modest = rw e run-modest
 
     pub answers-printed : r .refusal ≡ 0 → take (r .length) after ≡ printedOf (runHost s j buffer)
     answers-printed z = answers-of z ∙ ap printedOf e
       where
-        answers-of : r .refusal ≡ 0 → take (r .length) after ≡ printedOf (ranAs r after)
+        answers-of : r .refusal ≡ 0 → take (r .length) after ≡ printedOf (hostedOf r after)
         answers-of z = rw (eq-eqb (r .refusal) 0 z)
 
     pub refusal-printed : (r .refusal ≡ 0 → ⊥) → (end : List ℕ) → end ≡ line (r .refusal ∷ r .line ∷ []) ++ drop 13 after
@@ -66,7 +67,7 @@ module _ (s j buffer : List ℕ) (short : length j < 999999) where
         let l = r .refusal ∷ r .line ∷ [] in
         ap (take 13) q ∙ take-at (line l) (drop 13 after) 13 (line-length l) ∙ refusal-of n ∙ ap printedOf e
       where
-        refusal-of : (r .refusal ≡ 0 → ⊥) → line (r .refusal ∷ r .line ∷ []) ≡ printedOf (ranAs r after)
+        refusal-of : (r .refusal ≡ 0 → ⊥) → line (r .refusal ∷ r .line ∷ []) ≡ printedOf (hostedOf r after)
         refusal-of n = rw (ne-eqb (r .refusal) 0 n)
 
 -- the first 32,614 bytes of a sheet decide what is printed

@@ -11,7 +11,6 @@ use Rattle.rules.specs.Render.{line}
 use Rattle.rules.specs.Run.{Call, answers}
 use Rattle.rules.specs.Journal.{Journal, calls, faulty, journal, answerLines}
 use Rattle.rules.specs.Listing.{Hosted}
-use Rattle.journal.specs.declared.run.Ran.{Ran}
 
 -- a journal whose lines are all of the form, and its calls
 pub record Spells (s : List ℕ) : Type 0 where
@@ -22,10 +21,6 @@ pub record Spells (s : List ℕ) : Type 0 where
 unfoldable pub textOf : Book → Journal → List ℕ
 textOf k (calls cs) = answerLines (answers k cs)
 textOf k (faulty j) = []
-
--- what the call answers, and what its buffer holds afterwards
-abbrev pub ranAs : Ran → List ℕ → Hosted
-ranAs r buffer = record { refusal = r .refusal; line = r .line; length = r .length; buffer = buffer }
 
 -- what the program prints: the answers, or one line with the refusal's number and line
 abbrev pub printedOf : Hosted → List ℕ

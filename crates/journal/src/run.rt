@@ -10,25 +10,18 @@ ghost use Rattle.rules.specs.Run.{Call};
 ghost use Rattle.rules.specs.Journal.{calls, journal as journalOf, ranOn, runHost};
 ghost use Rattle.theory.proofs.Runs.{Throughout};
 ghost use Rattle.sheet.specs.Represent.{Sound, bookOf};
-ghost use Rattle.journal.specs.Running.{Spells, textOf, ranAs};
+ghost use Rattle.listing.specs.Host.{hostedOf};
+ghost use Rattle.journal.specs.Running.{Spells, textOf};
 use crate::answer::line_length;
 use crate::answer::put_answer;
 use crate::call::make;
 use crate::entry::entry_at;
 use crate::entry::fault_line;
+use listing::host::Hosted;
 use listing::host::code;
 use sheet::Refusal;
 use sheet::Sheet;
 use sheet::read::read;
-
-// The refusal's number, 0 for none, 19 for a journal that is not of the form; its line, 0 for none and for 9; and how many bytes the
-// answers have, 0 on a refusal.
-#[repr(C)]
-pub struct Ran {
-    pub refusal: u32,
-    pub line: usize,
-    pub length: usize,
-}
 
 // Makes all calls, and adds up how many bytes their answers have, until they are more than room.
 fn fits(sheet: Sheet, journal: &[u8], room: usize) -> bool
@@ -78,13 +71,13 @@ fn write_answers(sheet: Sheet, journal: &[u8], out: &mut [u8]) -> usize
 }
 
 // A journal on a sheet. It is judged whole before its first call is made.
-fn run_on(sheet: Sheet, journal: &[u8], out: &mut [u8]) -> Ran
+fn run_on(sheet: Sheet, journal: &[u8], out: &mut [u8]) -> Hosted
     requires { ⌜ Sound sheet ⌝ }
-    ensures { λ r. ⌜ ranAs r (now (out .exit)) ≡ ranOn (bookOf sheet) (journalOf (now (journal .entry))) (now (out .entry)) ⌝ }
+    ensures { λ r. ⌜ hostedOf r (now (out .exit)) ≡ ranOn (bookOf sheet) (journalOf (now (journal .entry))) (now (out .entry)) ⌝ }
 {
     let line = fault_line(journal);
     if line != 0 {
-        return Ran {
+        return Hosted {
             refusal: 19,
             line,
             length: 0,
@@ -92,14 +85,14 @@ fn run_on(sheet: Sheet, journal: &[u8], out: &mut [u8]) -> Ran
     }
     let room = out.len();
     if !fits(sheet, journal, room) {
-        return Ran {
+        return Hosted {
             refusal: 9,
             line: 0,
             length: 0,
         };
     }
     let length = write_answers(sheet, journal, out);
-    Ran {
+    Hosted {
         refusal: 0,
         line: 0,
         length,
@@ -107,19 +100,19 @@ fn run_on(sheet: Sheet, journal: &[u8], out: &mut [u8]) -> Ran
 }
 
 // Reads a sheet of any bytes, makes the calls of a journal of any bytes on it, one after the other, and writes their answers at the
-// front of `answers`. A refusal of the sheet comes before one of the journal, and both before 9. No refusal writes anything; bytes
+// front of `answers`. A refusal of the sheet comes before one of the journal, and both before 9; the journal's is 19, with its line. No refusal writes anything; bytes
 // past the answers stay. All that is claimed of reviews, trials and plannings holds on the book before each call, and after the last. To C each slice is a pointer and a length:
-//   Ran bankplan_run(const uint8_t *sheet, size_t sheet_length, const uint8_t *journal, size_t journal_length,
+//   Hosted bankplan_run(const uint8_t *sheet, size_t sheet_length, const uint8_t *journal, size_t journal_length,
 //                    uint8_t *answers, size_t answers_length);
 #[no_mangle]
-pub extern "C" fn bankplan_run(sheet: &[u8], journal: &[u8], answers: &mut [u8]) -> Ran
-    ensures { λ r. ⌜ ranAs r (now (answers .exit)) ≡ runHost (now (sheet .entry)) (now (journal .entry)) (now (answers .entry)) ⌝ }
+pub extern "C" fn bankplan_run(sheet: &[u8], journal: &[u8], answers: &mut [u8]) -> Hosted
+    ensures { λ r. ⌜ hostedOf r (now (answers .exit)) ≡ runHost (now (sheet .entry)) (now (journal .entry)) (now (answers .entry)) ⌝ }
     ensures { λ _. ⌜ ((k : Book) (cs : List Call) → readAs (now (sheet .entry)) ≡ accepted k → journalOf (now (journal .entry)) ≡ calls cs → Throughout k cs) ⌝ }
 {
     let r = read(sheet);
     let e = r.refusal;
     let Refusal::Nothing = e else {
-        return Ran {
+        return Hosted {
             refusal: code(e),
             line: r.line,
             length: 0,

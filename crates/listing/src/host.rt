@@ -11,11 +11,12 @@ use sheet::Refusal;
 use sheet::Sheet;
 use sheet::read::read;
 
-// The refusal's number, 0 for none, and its line, 0 for none and for 9; and how many bytes the listing has, 0 on a refusal.
+// What a call from outside answers: the refusal's number, 0 for none, and its line, 0 for none and for 9; and how many bytes the text
+// has, 0 on a refusal.
 #[repr(C)]
 pub struct Hosted {
     pub refusal: u32,
-    pub line: u32,
+    pub line: usize,
     pub length: usize,
 }
 
@@ -87,10 +88,9 @@ pub extern "C" fn bankplan_plan(sheet: &[u8], listing: &mut [u8]) -> Hosted
     let r = read(sheet);
     let e = r.refusal;
     let Refusal::Nothing = e else {
-        let line = r.line as u32;
         return Hosted {
             refusal: code(e),
-            line,
+            line: r.line,
             length: 0,
         };
     };

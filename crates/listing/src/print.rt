@@ -20,6 +20,6 @@ pub fn print(sheet: &[u8], out: &mut [u8]) -> usize
     if number == 0 {
         return h.length;
     }
-    put_refusal(out, number, h.line);
+    put_refusal(out, number, h.line as u32);
     13
 }

@@ -61,7 +61,7 @@ impl Room {
 #[derive(Clone, Debug, PartialEq, Eq)]
 pub enum Expected {
     Listing(Vec<u8>),
-    Refused { refusal: u32, line: u32 },
+    Refused { refusal: u32, line: usize },
 }
 
 impl Expected {
@@ -102,7 +102,7 @@ impl Expected {
                 let written = Hosted {
                     refusal: 0,
                     line: 0,
-                    length: listing.len() as u64,
+                    length: listing.len(),
                 };
                 (written, listing)
             }
@@ -200,7 +200,7 @@ pub struct Met {
     /// Calls by refusal number, 0 for none, and by kind of buffer.
     pub calls: [[usize; 8]; 10],
     /// By refusal number, the lines at which reading was refused.
-    pub lines: [BTreeSet<u32>; 10],
+    pub lines: [BTreeSet<usize>; 10],
     pub plans: Plans,
 }
 

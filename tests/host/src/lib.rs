@@ -8,22 +8,12 @@ pub mod kinds;
 pub mod listing;
 pub mod runs;
 
-/// What the call returns: refusal 0 and the listing's length, or a refusal
-/// with its line (0 where the buffer is too short) and length 0.
-#[repr(C)]
-#[derive(Clone, Copy, Debug, PartialEq, Eq)]
-pub struct Hosted {
-    pub refusal: u32,
-    pub line: u32,
-    pub length: u64,
-}
-
-/// What a run returns: refusal 0 and how many bytes the answers have, or a
+/// What both calls return: refusal 0 and how many bytes the text has, or a
 /// refusal of the sheet or the journal with its line (0 where the buffer is
 /// too short) and length 0.
 #[repr(C)]
 #[derive(Clone, Copy, Debug, PartialEq, Eq)]
-pub struct Ran {
+pub struct Hosted {
     pub refusal: u32,
     pub line: usize,
     pub length: usize,
@@ -44,7 +34,7 @@ extern "C" {
         journal_len: usize,
         answers: *mut u8,
         answers_len: usize,
-    ) -> Ran;
+    ) -> Hosted;
 }
 
 /// Read the sheet, plan it and write the listing to the front of the buffer.
@@ -64,7 +54,7 @@ pub fn plan(sheet: &[u8], listing: &mut [u8]) -> Hosted {
 
 /// Read the sheet, make the journal's calls on it one after the other, and
 /// write their answers to the front of the buffer. This is the proved code.
-pub fn run(sheet: &[u8], journal: &[u8], answers: &mut [u8]) -> Ran {
+pub fn run(sheet: &[u8], journal: &[u8], answers: &mut [u8]) -> Hosted {
     // SAFETY: the call takes any bytes and any three lengths, reads the first
     // two slices, writes to the third and keeps none.
     unsafe {
@@ -84,7 +74,7 @@ pub fn plan_second(sheet: &[u8], listing: &mut [u8]) -> Hosted {
     let answer = second::host(sheet, listing);
     Hosted {
         refusal: answer.refusal,
-        line: answer.line,
-        length: answer.length as u64,
+        line: answer.line as usize,
+        length: answer.length,
     }
 }

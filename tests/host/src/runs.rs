@@ -12,7 +12,7 @@ use second::{Call, Sheet};
 
 use crate::check::Lent;
 use crate::journal::{answers, journal, numbers, read, GREATEST};
-use crate::{run, Ran};
+use crate::{run, Hosted};
 
 /// The fewest bytes that an answer has: that of an edit.
 pub const LEAST: usize = 7;
@@ -52,8 +52,8 @@ impl Due {
     }
 
     /// What a call with a buffer of this size returns and writes.
-    fn at(&self, size: usize) -> (Ran, &[u8]) {
-        let refused = |refusal, line| Ran {
+    fn at(&self, size: usize) -> (Hosted, &[u8]) {
+        let refused = |refusal, line| Hosted {
             refusal,
             line,
             length: 0,
@@ -62,7 +62,7 @@ impl Due {
             Due::Refused { refusal, line } => (refused(*refusal, *line), &[]),
             Due::Answers(text) if size < text.len() => (refused(9, 0), &[]),
             Due::Answers(text) => {
-                let written = Ran {
+                let written = Hosted {
                     refusal: 0,
                     line: 0,
                     length: text.len(),
@@ -74,7 +74,7 @@ impl Due {
 }
 
 /// What makes a run: sheet and journal go in, the answers to the buffer.
-pub type Runner = fn(&[u8], &[u8], &mut [u8]) -> Ran;
+pub type Runner = fn(&[u8], &[u8], &mut [u8]) -> Hosted;
 
 /// Makes runs and watches the memory that it lends.
 pub struct Judge {
@@ -97,7 +97,7 @@ impl Judge {
         journal: &[u8],
         size: usize,
         due: &Due,
-    ) -> Result<Ran, String> {
+    ) -> Result<Hosted, String> {
         let runner = self.runner;
         let ran = self
             .lent

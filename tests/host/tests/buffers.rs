@@ -62,7 +62,7 @@ fn empty_buffers() {
         let hosted = plan(&case.sheet, &mut Vec::new());
         let (refusal, line) = match second::read(&case.sheet) {
             Ok(_) => (9, 0),
-            Err(fault) => (fault.refusal.number(), fault.line),
+            Err(fault) => (fault.refusal.number(), fault.line as usize),
         };
         let due = Hosted {
             refusal,
@@ -181,7 +181,7 @@ const CHEATS: [Cheat; 14] = [
         if hosted.refusal == 9 {
             return Hosted {
                 refusal: 0,
-                length: listing.len() as u64,
+                length: listing.len(),
                 ..hosted
             };
         }
@@ -189,12 +189,12 @@ const CHEATS: [Cheat; 14] = [
     }),
     ("gives a line with 9", |sheet, listing| {
         let hosted = plan(sheet, listing);
-        let line = hosted.line + (hosted.refusal == 9) as u32;
+        let line = hosted.line + (hosted.refusal == 9) as usize;
         Hosted { line, ..hosted }
     }),
     ("gives a line with a listing", |sheet, listing| {
         let hosted = plan(sheet, listing);
-        let line = hosted.line + (hosted.refusal == 0) as u32;
+        let line = hosted.line + (hosted.refusal == 0) as usize;
         Hosted { line, ..hosted }
     }),
     ("counts lines from 0", |sheet, listing| {

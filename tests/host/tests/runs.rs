@@ -7,7 +7,7 @@ use std::sync::atomic::{AtomicUsize, Ordering};
 use against::{cases, Case};
 use host::journal::{journal, read, GREATEST};
 use host::runs::{compare, compare_bytes, Due, Judge, Met, Runner, BAD_JOURNAL, LEAST};
-use host::{run, Ran};
+use host::{run, Hosted};
 use second::gen;
 use second::rng::Rng;
 use second::Call;
@@ -22,7 +22,7 @@ const SHEET: &str = "     2     3
 /// What the answers to a journal are, or its refusal and line.
 fn answer(sheet: &str, journal: &str) -> Result<String, (u32, usize)> {
     let mut answers = vec![0; 4_000];
-    let Ran {
+    let Hosted {
         refusal,
         line,
         length,
@@ -508,7 +508,7 @@ fn bytes_beside_the_journal() {
 /// A runner that is right but for one thing.
 type Cheat = (&'static str, Runner);
 
-const SHORT: Ran = Ran {
+const SHORT: Hosted = Hosted {
     refusal: 9,
     line: 0,
     length: 0,
@@ -551,7 +551,7 @@ const CHEATS: [Cheat; 19] = [
     ("judges the journal first", |sheet, journal, answers| {
         let ran = run(sheet, journal, answers);
         match read(journal) {
-            Err(line) => Ran {
+            Err(line) => Hosted {
                 refusal: BAD_JOURNAL,
                 line,
                 length: 0,
@@ -571,19 +571,19 @@ const CHEATS: [Cheat; 19] = [
     ("gives a line with 9", |sheet, journal, answers| {
         let ran = run(sheet, journal, answers);
         let line = ran.line + (ran.refusal == 9) as usize;
-        Ran { line, ..ran }
+        Hosted { line, ..ran }
     }),
     ("gives a line with answers", |sheet, journal, answers| {
         let ran = run(sheet, journal, answers);
         let line = ran.line + (ran.refusal == 0) as usize;
-        Ran { line, ..ran }
+        Hosted { line, ..ran }
     }),
     (
         "counts a journal's lines from 0",
         |sheet, journal, answers| {
             let ran = run(sheet, journal, answers);
             let line = ran.line - (ran.refusal == BAD_JOURNAL) as usize;
-            Ran { line, ..ran }
+            Hosted { line, ..ran }
         },
     ),
     ("gives the last line", |sheet, journal, answers| {
@@ -594,7 +594,7 @@ const CHEATS: [Cheat; 19] = [
         } else {
             ran.line
         };
-        Ran { line, ..ran }
+        Hosted { line, ..ran }
     }),
     ("takes 19 for 1", |sheet, journal, answers| {
         let ran = run(sheet, journal, answers);
@@ -603,14 +603,14 @@ const CHEATS: [Cheat; 19] = [
         } else {
             ran.refusal
         };
-        Ran { refusal, ..ran }
+        Hosted { refusal, ..ran }
     }),
     (
         "gives a length with a refusal",
         |sheet, journal, answers| {
             let ran = run(sheet, journal, answers);
             let length = ran.length.max((ran.refusal != 0) as usize);
-            Ran { length, ..ran }
+            Hosted { length, ..ran }
         },
     ),
     ("leaves out the last LF", |sheet, journal, answers| {
@@ -621,7 +621,7 @@ const CHEATS: [Cheat; 19] = [
     ("refuses the empty journal", |sheet, journal, answers| {
         let ran = run(sheet, journal, answers);
         if journal.is_empty() && ran.refusal == 0 {
-            return Ran {
+            return Hosted {
                 refusal: BAD_JOURNAL,
                 line: 1,
                 length: 0,

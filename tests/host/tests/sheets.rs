@@ -11,7 +11,7 @@ use second::rng::Rng;
 use second::{apply, read, trial, Call, Draft, Sheet, Verdict};
 
 /// What a sheet's listing is, or its refusal and line.
-fn answer(sheet: &str) -> Result<String, (u32, u32)> {
+fn answer(sheet: &str) -> Result<String, (u32, usize)> {
     let mut listing = vec![0; host::listing::MOST];
     let Hosted {
         refusal,
@@ -23,7 +23,7 @@ fn answer(sheet: &str) -> Result<String, (u32, u32)> {
         return Err((refusal, line));
     }
     assert_eq!(line, 0);
-    listing.truncate(length as usize);
+    listing.truncate(length);
     Ok(String::from_utf8(listing).unwrap())
 }
 

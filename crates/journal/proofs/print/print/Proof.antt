@@ -2,7 +2,7 @@
 -- Assumes nothing.
 use native.Mathlib.Omega.{arith}
 use Rattle.journal.proofs.Printing.{Modest, ran-modest, answers-printed, refusal-printed}
-use Rattle.journal.specs.Running.{ranAs}
+use Rattle.listing.specs.Host.{hostedOf}
 use lib.ListN.{length}
 use borrow.Author.Needs.{needs}
 use Rattle.journal.proofs.print.print.Statement.{statement}
@@ -10,7 +10,7 @@ use Rattle.journal.proofs.print.print.Tie as tie
 
 -- what is to be printed
 told : (c : tie.After-bankplan-run)
-    → Modest (length (c .before .before .before .before .before .args .out .now)) (ranAs (c .bankplan-run .result) (c .bankplan-run .last .1 .1 .0))
+    → Modest (length (c .before .before .before .before .before .args .out .now)) (hostedOf (c .bankplan-run .result) (c .bankplan-run .last .1 .1 .0))
 told c =
     let a = c .before .before .before .before .before in
     ran-modest (a .args .sheet .now) (a .args .journal .now) _ (a .pre .1) _ _ (c .bankplan-run .ensures .0)

@@ -1,17 +1,16 @@
 -- The sheet that reading hands on is sound, and a refusal is the rules'.
 -- Assumes nothing.
 use mathlib.Core.Path.{_∙_}
-use native.Mathlib.Omega.{arith}
 use Rattle.sheet.proofs.Given.{some-refusal}
-use Rattle.sheet.proofs.Accepted.{Accepted, is-accepted, Refused, is-refused, refused-line}
+use Rattle.sheet.proofs.Accepted.{Accepted, is-accepted, Refused, is-refused}
 use Rattle.listing.proofs.Hosting.{host-refused, host-listed}
 use borrow.Author.Needs.{needs}
 use Rattle.listing.proofs.host.bankplan_plan.Statement.{statement}
 use Rattle.listing.proofs.host.bankplan_plan.Tie as tie
 
 -- what was refused, and what was read
-refused : (c : tie.After-struct-known) → Refused (c .before .before .before .before .before .args .sheet .now) (c .before .before .read .result)
-refused c = is-refused _ _ (c .before .before .read .ensures) (some-refusal _ (c .before .match .keys2))
+refused : (c : tie.At-match-keys2) → Refused (c .before .before .before .before .args .sheet .now) (c .before .read .result)
+refused c = is-refused _ _ (c .before .read .ensures) (some-refusal _ (c .match .keys2))
 
 taken : (c : tie.After-enum-told) → Accepted (c .before .before .before .before .before .args .sheet .now) (c .before .before .read .result)
 taken c = is-accepted _ _ (c .before .before .read .ensures) (c .enum-told .given .1)
@@ -21,9 +20,6 @@ read-requires c κs = search needs
 
 enum-told : tie.Need-enum-told
 enum-told c = search needs
-
-cast-line : tie.Need-cast-line
-cast-line c = let f = refused c in omega (arith, refused-line _ _ _ (f .said))
 
 code-requires : tie.Need-code-requires
 code-requires c κs = search needs
@@ -46,7 +42,6 @@ bankplan-plan-spec =
     (tie.spec
     read-requires
     enum-told
-    cast-line
     code-requires
     returns
     list-into-requires
