@@ -38,8 +38,10 @@ verdict=$(tail -n 1 "$log")
 [[ $verdict =~ ^[1-9][0-9]*\ passed,\ 0\ failed$ ]] || missing "rt ci's verdict; its last line was: $verdict"
 
 echo "== the static library, and a host in C"
-rt staticlib listing
+rt staticlib listing &
+listing=$!
 rt staticlib journal
+wait "$listing"
 bash scripts/host.sh
 
 echo "== tests in Rust"
