@@ -1,18 +1,18 @@
--- The digits of a word, as tests: those of a conjunction, a disjunction, a power, a complement and a shift, and the lowest one.
+-- The digits of a word, as tests: those of a conjunction, a disjunction, a power and a complement, and the lowest one.
 -- Assumes nothing.
 use Prim.Native.Nat.{ℕ, zero, suc, _+_, _-_, _*_, _/_, _%_, _^_, _≤_, _<_, min, max}
 use mathlib.Core.Path.{_≡_, refl, sym, ap, _∙_}
 use mathlib.Core.Bool.{Bool, true, false, not}
-use native.Mathlib.Nat.{mod-lt, pow-suc, div-one, zero-lt-suc, mul-one, sub-zero, div-eq-of-lt, lt-of-lt-of-le}
+use native.Mathlib.Nat.{mod-lt, pow-suc, div-one, zero-lt-suc, lt-of-le-of-lt}
 use native.Mathlib.Numerals.{one-add}
 use native.Mathlib.Omega.{arith}
 use native.Mathlib.Decide.{decLe}
-use lib.Arith.{digits-div, digits-mod, mod-mul}
-use lib.Bits.{bitAnd, bitOr, and-step, or-step, shifted-half, shifted-even}
+use lib.Arith.{digits-div, digits-mod}
+use lib.Bits.{bitAnd, bitOr, and-step, or-step, and-le-l}
 use lib.Count.{trailingZeros, under}
-use lib.Pow.{shr-shr, pow-pos, pow-mono}
-use lib.Dec.{eqb, leb, ltb, eqb·suc-suc}
-use borrow.Author.Tests.{eqb-true, eqb-false, eq-eqb, ne-eqb, le-leb, lt-leb, lt-ltb, le-ltb}
+use lib.Pow.{shr-shr}
+use lib.Dec.{eqb, eqb·suc-suc}
+use borrow.Author.Tests.{eqb-true, eqb-false, eq-eqb, ne-eqb}
 use Rattle.rules.specs.Fold.{_and_, _or_}
 use Rattle.theory.proofs.Logic.{byTest}
 
@@ -99,63 +99,6 @@ bit-not (suc w) a (suc k) h l =
     let e : (2 ^ suc w - 1 - a) / 2 ≡ 2 ^ w - 1 - a / 2 = omega arith in
     ap (λ (x : ℕ). bit x k) e ∙ bit-not w (a / 2) k (omega arith) (omega arith)
 
--- ---- shifts
-
-low-step : (w x : ℕ) → x % 2 ^ suc w ≡ x / 2 % 2 ^ w * 2 + x % 2
-low-step w x = rw (pow-suc 2 w) (mod-mul x (pow-pos w) (zero-lt-suc 1))
-
-pub bit-low : (w x k : ℕ) → k < w → bit (x % 2 ^ w) k ≡ bit x k
-unfolding bit
-bit-low zero x k l = absurd (omega arith)
-bit-low (suc w) x zero l =
-    ap (λ (y : ℕ). eqb y 1) (ap (λ (y : ℕ). y % 2) (low-step w x) ∙ digits-mod (x / 2 % 2 ^ w) (mod-lt x (zero-lt-suc 1)))
-bit-low (suc w) x (suc k) l =
-    ap (λ (y : ℕ). bit y k) (ap (λ (y : ℕ). y / 2) (low-step w x) ∙ digits-div (x / 2 % 2 ^ w) (mod-lt x (zero-lt-suc 1)))
-    ∙ bit-low w (x / 2) k (omega arith)
-
-pub bit-high : (w x k : ℕ) → x < 2 ^ w → w ≤ k → bit x k ≡ false
-bit-high w x k h l =
-    let p = pow-mono l in
-    sym (bit-shift x k) ∙ (let e : x / 2 ^ k ≡ 0 = div-eq-of-lt (lt-of-lt-of-le h p) in rw e)
-
-pub bit-shr : (x s k : ℕ) → bit (x / 2 ^ s) k ≡ bit x (s + k)
-bit-shr x s k = sym (bit-shift (x / 2 ^ s) k) ∙ rw (shr-shr x s k) (bit-shift x (s + k))
-
-pub bit-shl-low : (x s k : ℕ) → k < s → bit (x * 2 ^ s) k ≡ false
-unfolding bit
-bit-shl-low x zero k l = absurd (omega arith)
-bit-shl-low x (suc s) zero l = rw (shifted-even x s)
-bit-shl-low x (suc s) (suc k) l = rw (shifted-half x s) (bit-shl-low x s k (omega arith))
-
-pub bit-shl : (x s k : ℕ) → s ≤ k → bit (x * 2 ^ s) k ≡ bit x (k - s)
-unfolding bit
-bit-shl x zero k l = rw (mul-one x, sub-zero k)
-bit-shl x (suc s) zero l = absurd (omega arith)
-bit-shl x (suc s) (suc k) l =
-    let e : suc k - suc s ≡ k - s = omega arith in
-    rw (shifted-half x s, e) (bit-shl x s k (omega arith))
-
--- every digit of the greatest word is set
-pub bit-ones : (w k : ℕ) → k < w → bit (2 ^ w - 1) k ≡ true
-bit-ones w k l = rw (← sub-zero (2 ^ w - 1)) (bit-not w 0 k (pow-pos w) l ∙ ap not (bit-zero k))
-
--- those from lo on, and those below hi
-pub bit-from : (w lo k : ℕ) → k < w → bit ((2 ^ w - 1) * 2 ^ lo % 2 ^ w) k ≡ leb lo k
-bit-from w lo k l =
-    bit-low w ((2 ^ w - 1) * 2 ^ lo) k l
-    ∙ elim (decLe lo k) [
-      | yes z ↦ bit-shl (2 ^ w - 1) lo k z ∙ bit-ones w (k - lo) (omega arith) ∙ sym (le-leb lo k z)
-      | no z ↦ bit-shl-low (2 ^ w - 1) lo k (omega arith) ∙ sym (lt-leb lo k (omega arith))
-    ]
-
-pub bit-to : (w hi k : ℕ) → hi ≤ w → bit ((2 ^ w - 1) / 2 ^ (w - hi)) k ≡ ltb k hi
-bit-to w hi k l =
-    bit-shr (2 ^ w - 1) (w - hi) k
-    ∙ elim (decLe hi k) [
-      | yes z ↦ bit-high w (2 ^ w - 1) (w - hi + k) (omega (arith, pow-pos w)) (omega arith) ∙ sym (le-ltb k hi z)
-      | no z ↦ bit-ones w (w - hi + k) (omega arith) ∙ sym (lt-ltb k hi (omega arith))
-    ]
-
 -- ---- the lowest digit that is set
 
 pub bits-none : (w x : ℕ) → x < 2 ^ w → ((k : ℕ) → k < w → bit x k ≡ false) → x ≡ 0
@@ -194,3 +137,66 @@ trailing-small v w x l h n = elim (decLe w (trailingZeros v x)) [
   | yes z ↦ absurd (n (bits-none w x h (λ k u. trailing-clear v x k (omega arith))))
   | no z ↦ omega arith
 ]
+
+and-not : (a : Bool) → a and not a ≡ false
+unfolding _and_
+and-not true = refl
+and-not false = refl
+
+and-true : (a : Bool) → a and true ≡ a
+unfolding _and_
+and-true true = refl
+and-true false = refl
+
+-- a word and its complement have no digit in common
+apart : (w x : ℕ) → x < 2 ^ w → bitAnd x (2 ^ w - 1 - x) ≡ 0
+apart w x h =
+    bits-none w (bitAnd x (2 ^ w - 1 - x)) (lt-of-le-of-lt (and-le-l x (2 ^ w - 1 - x)) h)
+    (λ k l. bit-and x (2 ^ w - 1 - x) k ∙ rw (bit-not w x k h l) (and-not (bit x k)))
+
+lowest-step : (w x : ℕ) → 0 < x → x < 2 ^ suc w
+    → (0 < x / 2 → x / 2 < 2 ^ w → bitAnd (x / 2) (2 ^ w - x / 2) ≡ 2 ^ trailingZeros w (x / 2))
+    → (d : ℕ) → x % 2 ≡ d → bitAnd x (2 ^ suc w - x) ≡ 2 ^ under d (trailingZeros w (x / 2))
+lowest-step w x l h f zero e =
+    let p = pow-suc 2 w in
+    let t = trailingZeros w (x / 2) in
+    let a : (2 ^ suc w - x) / 2 ≡ 2 ^ w - x / 2 = omega arith in
+    let b : (2 ^ suc w - x) % 2 ≡ 0 = omega arith in
+    and-step x (2 ^ suc w - x) ∙ rw (a, b, e, f (omega arith) (omega arith)) (omega (arith, pow-suc 2 t))
+lowest-step w x l h f (suc d) e =
+    let p = pow-suc 2 w in
+    let a : (2 ^ suc w - x) / 2 ≡ 2 ^ w - 1 - x / 2 = omega arith in
+    let b : (2 ^ suc w - x) % 2 ≡ 1 = omega arith in
+    let o : x % 2 ≡ 1 = omega arith in
+    and-step x (2 ^ suc w - x) ∙ rw (a, b, o, apart w (x / 2) (omega arith))
+
+-- a word and its negative have the lowest digit in common, and no other
+pub lowest-power : (w x : ℕ) → 0 < x → x < 2 ^ w → bitAnd x (2 ^ w - x) ≡ 2 ^ trailingZeros w x
+unfolding trailingZeros
+lowest-power zero x l h = absurd (omega arith)
+lowest-power (suc w) x l h = lowest-step w x l h (lowest-power w (x / 2)) (x % 2) refl
+
+-- ---- a digit that is set, taken away
+
+pub power-le : (t x : ℕ) → bit x t ≡ true → 2 ^ t ≤ x
+unfolding bit
+power-le zero x e = omega (arith, eqb-true (x % 2) 1 e)
+power-le (suc t) x e = omega (arith, pow-suc 2 t, power-le t (x / 2) e)
+
+pub bit-less : (t x k : ℕ) → bit x t ≡ true → bit (x - 2 ^ t) k ≡ bit x k and not (eqb k t)
+unfolding bit _and_
+bit-less zero x zero e = let o = eqb-true (x % 2) 1 e in rw e (ne-eqb ((x - 2 ^ 0) % 2) 1 (λ z. omega arith))
+bit-less zero x (suc k) e =
+    let o = eqb-true (x % 2) 1 e in
+    let q : (x - 2 ^ 0) / 2 ≡ x / 2 = omega arith in
+    rw (q, ne-eqb (suc k) 0 (λ z. omega arith)) (sym (and-true (bit (x / 2) k)))
+bit-less (suc t) x zero e =
+    let p = pow-suc 2 t in
+    let l = power-le t (x / 2) e in
+    let q : (x - 2 ^ suc t) % 2 ≡ x % 2 = omega arith in
+    rw (q, ne-eqb 0 (suc t) (λ z. omega arith)) (sym (and-true (eqb (x % 2) 1)))
+bit-less (suc t) x (suc k) e =
+    let p = pow-suc 2 t in
+    let l = power-le t (x / 2) e in
+    let q : (x - 2 ^ suc t) / 2 ≡ x / 2 - 2 ^ t = omega arith in
+    rw (q, eqb·suc-suc k t) (bit-less t (x / 2) k e)

@@ -32,21 +32,21 @@ is-between from to b l u = and-mk _ _ (le-leb _ _ l) (lt-ltb _ _ u)
 
 -- ---- the jobs on each machine
 
--- the first b jobs are in
-abbrev pub EnteredTo : List ℕ → ℕ → List ℕ → Type 0
-EnteredTo places b rows = (i k : ℕ) → i < 24 → k < 256 → inRow rows i k ≡ (ltb k b and eqb (getD places k 0) (suc i))
+-- the first b jobs are in, each in the row that g gives, as a number from 1
+abbrev pub EnteredBy : (ℕ → ℕ) → ℕ → List ℕ → Type 0
+EnteredBy g b rows = (i k : ℕ) → i < 24 → k < 256 → inRow rows i k ≡ (ltb k b and eqb (g k) (suc i))
 
 pub zeros-none : (i k : ℕ) → inRow (replicate 96 0) i k ≡ false
 unfolding inRow
 zeros-none i k = rw (at-zeros 96 (suc (4 * i + k / 64))) (set-zero 0 refl (suc (k % 64)))
 
-pub entered-none : (places : List ℕ) → EnteredTo places 0 (replicate 96 0)
+pub entered-none : (g : ℕ → ℕ) → EnteredBy g 0 (replicate 96 0)
 unfolding _and_
-entered-none places i k il kl = zeros-none i k ∙ (rw (le-ltb k 0 (omega arith)) refl)
+entered-none g i k il kl = zeros-none i k ∙ (rw (le-ltb k 0 (omega arith)) refl)
 
-pub entered-more : (places : List ℕ) {rows rows′ : List ℕ} {b p : ℕ} → EnteredTo places b rows → p ≡ getD places b 0 → 0 < p → In rows rows′ (p - 1) b (b + 1)
-    → EnteredTo places (b + 1) rows′
-entered-more places {rows} {rows′} {b} {p} v e l w i k il kl =
+pub entered-more : (g : ℕ → ℕ) {rows rows′ : List ℕ} {b p : ℕ} → EnteredBy g b rows → p ≡ g b → 0 < p → In rows rows′ (p - 1) b (b + 1)
+    → EnteredBy g (b + 1) rows′
+entered-more g {rows} {rows′} {b} {p} v e l w i k il kl =
     w .each i k il kl
     ∙ same-bool _ _
     (λ t. or-cases (inRow rows i k) _ t
@@ -55,14 +55,14 @@ entered-more places {rows} {rows′} {b} {p} v e l w i k il kl =
     let q = eqb-true i (p - 1) (and-left _ _ f) in
     let r = between-is b (b + 1) k (and-right (eqb i (p - 1)) _ f) in
     let z : k ≡ b = omega arith in
-    and-mk _ _ (lt-ltb k (b + 1) (omega arith)) (eq-eqb _ _ (ap (λ (x : ℕ). getD places x 0) z ∙ sym e ∙ (let y : p ≡ suc i = omega arith in y)))))
+    and-mk _ _ (lt-ltb k (b + 1) (omega arith)) (eq-eqb _ _ (ap g z ∙ sym e ∙ (let y : p ≡ suc i = omega arith in y)))))
     (λ t.
     let q = ltb-true k (b + 1) (and-left _ _ t) in
     let r = eqb-true _ _ (and-right (ltb k (b + 1)) _ t) in
     elim (decLe b k) [
       | yes h ↦
           let z : k ≡ b = omega arith in
-          let y : p ≡ suc i = e ∙ ap (λ (x : ℕ). getD places x 0) (sym z) ∙ r in
+          let y : p ≡ suc i = e ∙ ap g (sym z) ∙ r in
           or-right (inRow rows i k) _ (and-mk _ _ (eq-eqb i (p - 1) (omega arith)) (is-between b (b + 1) k h q))
       | no h ↦ or-left _ _ (v i k il kl ∙ and-mk _ _ (lt-ltb k b (omega arith)) (eq-eqb _ _ r))
     ])

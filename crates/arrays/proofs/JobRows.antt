@@ -1,26 +1,28 @@
--- Laws of the rows of jobs: a search by words, stores to the words of a row, and changes to a stretch of it.
+-- Laws of the rows of jobs: a search by words, stores to the words of a row, and a change to one job of it.
 -- Assumes nothing.
-use Prim.Native.Nat.{ℕ, zero, suc, _+_, _-_, _*_, _/_, _%_, _^_, _≤_, _<_}
-use mathlib.Core.Path.{_≡_, refl, sym, ap, ap₂, _∙_}
+use Prim.Native.Nat.{ℕ, zero, suc, _+_, _-_, _*_, _/_, _%_, _^_, _<_}
+use mathlib.Core.Path.{_≡_, refl, sym, ap, _∙_}
 use mathlib.Core.Bool.{Bool, true, false, not}
 use mathlib.Core.List.{List}
-use native.Mathlib.Nat.{add-zero}
+use native.Mathlib.Nat.{add-zero, one-mul, mod-eq-of-lt}
 use native.Mathlib.Omega.{arith}
 use native.Mathlib.Decide.{ℕ-discrete, decLe}
 use lib.Bits.{bitAnd, bitOr}
 use lib.Count.{trailingZeros}
+use lib.Pow.{pow-lt}
 use lib.ListN.{length, getD, set, length-set}
-use lib.Seq.{getD-set-same, getD-set-other}
-use lib.Dec.{eqb, leb, ltb}
-use borrow.Author.Tests.{eq-eqb, ne-eqb, lt-ltb, le-ltb, ltb-true, ltb-false, le-leb, lt-leb}
+use lib.Seq.{getD-set-same, getD-set-other, set-set}
+use lib.Dec.{eqb, ltb}
+use borrow.Author.Tests.{eq-eqb, ne-eqb, lt-ltb, le-ltb, ltb-true, ltb-false}
 use Rattle.rules.specs.Fold.{_and_, _or_, pick, anyTo, firstTo}
-use Rattle.theory.proofs.Logic.{byTest, conflict, and-mk}
+use Rattle.theory.proofs.Logic.{byTest, conflict, and-mk, or-false}
 use Rattle.theory.proofs.View.{None, first-hit, any-none}
 use Rattle.arrays.specs.Sets.{has}
 use Rattle.arrays.specs.Rows.{inRow, between, Out, In, Over, Empty}
-use Rattle.arrays.proofs.Bits.{bit-and, bit-not, bit-from, bit-to, bits-none, trailing-clear, trailing-set, trailing-small}
+use Rattle.arrays.proofs.Bits.{bit-power, bit-not, bits-none, trailing-clear, trailing-set, trailing-small}
 use Rattle.arrays.proofs.Search.{and-no-left, and-no-right, any-miss, or-none}
 use Rattle.arrays.proofs.Words.{has-suc, has-and, set-zero}
+use Rattle.arrays.proofs.Entering.{between-is, is-between}
 
 -- ---- a row by its words
 
@@ -47,35 +49,35 @@ module _ (rows : List ℕ) (i : ℕ) where
   unfolding inRow
   word-zero q b e d = rw d (set-zero (getD rows (4 * i + q) 0) e (suc (b % 64)))
 
-  -- a word that is 0, after none
-  pub word-none : (q : ℕ) → None (64 * q) (λ b. inRow rows i (b - 1)) → getD rows (4 * i + q) 0 ≡ 0
-      → None (64 * (q + 1)) (λ b. inRow rows i (b - 1))
-  word-none q h e b l u = elim (decLe b (64 * q)) [
-    | yes w ↦ h b l w
-    | no w ↦ word-zero q (b - 1) e (omega arith)
-  ]
+  -- the words before q are 0
+  pub words-none : (q : ℕ) → ((k : ℕ) → k < q → getD rows (4 * i + k) 0 ≡ 0) → None (64 * q) (λ b. inRow rows i (b - 1))
+  words-none q z b l u = word-zero ((b - 1) / 64) (b - 1) (z ((b - 1) / 64) (omega arith)) refl
 
-  -- a word that is not 0, after none
-  pub word-first : (q : ℕ) → q < 4 → None (64 * q) (λ b. inRow rows i (b - 1)) → getD rows (4 * i + q) 0 < 2 ^ 64
-      → (getD rows (4 * i + q) 0 ≡ 0 → ⊥)
-      → firstTo 256 (λ b. inRow rows i (b - 1)) ≡ suc (64 * q + trailingZeros 64 (getD rows (4 * i + q) 0))
-  word-first q f h s n =
-      let x = getD rows (4 * i + q) 0 in
-      let t = trailingZeros 64 x in
-      let u : t < 64 = trailing-small 64 64 x (omega arith) s n in
-      first-hit 256 (λ b. inRow rows i (b - 1)) (64 * q + t) (omega arith)
-      (λ b l v. elim (decLe b (64 * q)) [
-        | yes w ↦ h b l w
-        | no w ↦
-            let k = b - 1 - 64 * q in
-            let e : b - 1 ≡ 64 * q + k = omega arith in
-            rw e (word-at q k (omega arith) ∙ has-suc x k ∙ trailing-clear 64 x k (omega arith))
-      ])
-      (let e : suc (64 * q + t) - 1 ≡ 64 * q + t = omega arith in
-      rw e (word-at q t u ∙ has-suc x t ∙ trailing-set 64 x u))
+  -- and the word at q is not
+  module _ (q : ℕ) (small : getD rows (4 * i + q) 0 < 2 ^ 64) (some : getD rows (4 * i + q) 0 ≡ 0 → ⊥) where
+    pub word-low : trailingZeros 64 (getD rows (4 * i + q) 0) < 64
+    word-low = trailing-small 64 64 (getD rows (4 * i + q) 0) (omega arith) small some
 
-  row-none : ((q : ℕ) → q < 4 → getD rows (4 * i + q) 0 ≡ 0) → None 256 (λ b. inRow rows i (b - 1))
-  row-none z b l u = word-zero ((b - 1) / 64) (b - 1) (z ((b - 1) / 64) (omega arith)) refl
+    pub word-has : inRow rows i (64 * q + trailingZeros 64 (getD rows (4 * i + q) 0)) ≡ true
+    word-has =
+        let x = getD rows (4 * i + q) 0 in
+        word-at q (trailingZeros 64 x) word-low ∙ has-suc x (trailingZeros 64 x) ∙ trailing-set 64 x word-low
+
+    pub word-first : q < 4 → ((k : ℕ) → k < q → getD rows (4 * i + k) 0 ≡ 0)
+        → firstTo 256 (λ b. inRow rows i (b - 1)) ≡ suc (64 * q + trailingZeros 64 (getD rows (4 * i + q) 0))
+    word-first f z =
+        let x = getD rows (4 * i + q) 0 in
+        let t = trailingZeros 64 x in
+        let u = word-low in
+        first-hit 256 (λ b. inRow rows i (b - 1)) (64 * q + t) (omega arith)
+        (λ b l v. elim (decLe b (64 * q)) [
+          | yes w ↦ words-none q z b l w
+          | no w ↦
+              let k = b - 1 - 64 * q in
+              let e : b - 1 ≡ 64 * q + k = omega arith in
+              rw e (word-at q k (omega arith) ∙ has-suc x k ∙ trailing-clear 64 x k (omega arith))
+        ])
+        (let e : suc (64 * q + t) - 1 ≡ 64 * q + t = omega arith in rw e word-has)
 
   none-word : (q : ℕ) → q < 4 → getD rows (4 * i + q) 0 < 2 ^ 64 → None 256 (λ b. inRow rows i (b - 1))
       → getD rows (4 * i + q) 0 ≡ 0
@@ -102,7 +104,7 @@ module _ (rows : List ℕ) (i : ℕ) where
       let c = or-none (getD rows (4 * i) 0) (getD rows (4 * i + 1) 0) (b .0) in
       conflict t
       (any-miss 256 (λ b. inRow rows i (b - 1))
-      (row-none (four (λ q. getD rows (4 * i + q) 0) (rw e (c .0)) (c .1) (b .1) (a .1))))))))
+      (words-none 4 (four (λ q. getD rows (4 * i + q) 0) (rw e (c .0)) (c .1) (b .1) (a .1))))))))
       (λ t.
       let w : (q : ℕ) → q < 4 → getD rows (4 * i + q) 0 ≡ 0
       = λ q l. none-word q l (s q l) (any-none 256 (λ b. inRow rows i (b - 1)) t) in
@@ -194,140 +196,58 @@ filled-empty rows rows′ i v = record {
       ];
 }
 
--- ---- a stretch of a word
-
-pub has-span : (lo hi k : ℕ) → hi ≤ 64 → k < 64
-    → has (bitAnd (18446744073709551615 * 2 ^ lo % 18446744073709551616) (18446744073709551615 / 2 ^ (64 - hi))) (suc k) ≡ between lo hi k
-unfolding between
-has-span lo hi k l u =
-    has-suc _ k ∙ bit-and _ _ k ∙ ap₂ _and_ (bit-from 64 lo k u) (bit-to 64 hi k l)
+-- ---- one job of a row, changed
 
 pub has-less : (x y k : ℕ) → y < 2 ^ 64 → k < 64 → has (bitAnd x (18446744073709551615 - y)) (suc k) ≡ has x (suc k) and not (has y (suc k))
 has-less x y k h l =
     has-and x _ (suc k) ∙ ap (λ (t : Bool). has x (suc k) and t) (has-suc _ k ∙ bit-not 64 y k h l ∙ ap not (sym (has-suc y k)))
 
--- ---- a stretch of a row, changed a word at a time
+pub has-one : (k : ℕ) → k < 64 → (j : ℕ) → has (1 * 2 ^ k % 18446744073709551616) (suc j) ≡ eqb j k
+has-one k l j =
+    let e : 1 * 2 ^ k % 18446744073709551616 ≡ 2 ^ k = rw (one-mul (2 ^ k)) (mod-eq-of-lt (pow-lt {i = k} {j = 64} l)) in
+    rw e (has-suc (2 ^ k) j ∙ bit-power k j)
 
-between-yes : (from to b : ℕ) → from ≤ b → b < to → between from to b ≡ true
-unfolding between
-between-yes from to b l u = and-mk (leb from b) (ltb b to) (le-leb from b l) (lt-ltb b to u)
+between-one : (c b : ℕ) → eqb b c ≡ between c (c + 1) b
+between-one c b = elim (ℕ-discrete b c) [
+  | yes e ↦ eq-eqb b c e ∙ sym (is-between c (c + 1) b (omega arith) (omega arith))
+  | no n ↦ ne-eqb b c n ∙ sym (byTest (between c (c + 1) b) (λ t. let w = between-is c (c + 1) b t in absurd (n (omega arith))) (λ t. t))
+]
 
-between-low : (from to b : ℕ) → b < from → between from to b ≡ false
-unfolding between
-between-low from to b l = and-no-left (leb from b) (ltb b to) (lt-leb from b l)
+-- bit t of word q of the row of machine i, changed by op
+module _ (op : Bool → Bool → Bool) (keep : (a : Bool) → op a false ≡ a) (rows : List ℕ) (i q t x : ℕ) (long : length rows ≡ 96)
+    (few : i < 24) (low : q < 4) (high : t < 64)
+    (bits : (k : ℕ) → k < 64 → has x (suc k) ≡ op (has (getD rows (4 * i + q) 0) (suc k)) (eqb k t)) where
+  word-here : (k b : ℕ) → k ≡ i → b / 64 ≡ q
+      → inRow (set rows (4 * i + q) x) k b ≡ op (inRow rows k b) (eqb k i and between (64 * q + t) (64 * q + t + 1) b)
+  unfolding inRow _and_
+  word-here k b e d =
+      let s : eqb (b % 64) t ≡ eqb b (64 * q + t) = elim (ℕ-discrete (b % 64) t) [
+        | yes z ↦ eq-eqb (b % 64) t z ∙ sym (eq-eqb b (64 * q + t) (omega arith))
+        | no z ↦ ne-eqb (b % 64) t z ∙ sym (ne-eqb b (64 * q + t) (λ y. z (omega arith)))
+      ] in
+      rw (eq-eqb k i e, e, d, getD-set-same rows (4 * i + q) x 0 (omega arith))
+      (bits (b % 64) (omega arith) ∙ ap (op (has (getD rows (4 * i + q) 0) (suc (b % 64)))) (s ∙ between-one (64 * q + t) b))
 
-between-high : (from to b : ℕ) → to ≤ b → between from to b ≡ false
-unfolding between
-between-high from to b u = and-no-right (leb from b) (ltb b to) (le-ltb b to u)
+  word-else : (k b : ℕ) → (4 * k + b / 64 ≡ 4 * i + q → ⊥) → eqb k i and between (64 * q + t) (64 * q + t + 1) b ≡ false
+      → inRow (set rows (4 * i + q) x) k b ≡ op (inRow rows k b) (eqb k i and between (64 * q + t) (64 * q + t + 1) b)
+  unfolding inRow
+  word-else k b n e =
+      rw (getD-set-other rows (4 * i + q) (4 * k + b / 64) x 0 n, e) (sym (keep (has (getD rows (4 * k + b / 64) 0) (suc (b % 64)))))
 
-between-join : (from mid to b : ℕ) → from ≤ mid → mid ≤ to → between from mid b or between mid to b ≡ between from to b
-unfolding _or_
-between-join from mid to b l u =
-    elim (decLe mid b) [
-      | yes m ↦
-          rw (between-high from mid b m)
-          (elim (decLe to b) [
-            | yes t ↦ between-high mid to b t ∙ sym (between-high from to b t)
-            | no t ↦ between-yes mid to b m (omega arith) ∙ sym (between-yes from to b (omega arith) (omega arith))
-          ])
-      | no m ↦
-          elim (decLe from b) [
-            | yes f ↦ rw (between-yes from mid b f (omega arith)) (sym (between-yes from to b f (omega arith)))
-            | no f ↦
-                rw (between-low from mid b (omega arith))
-                (between-low mid to b (omega arith) ∙ sym (between-low from to b (omega arith)))
-          ]
-    ]
-
--- the same stretch, counted from another number on
-between-shift : (s lo hi b from to : ℕ) → s + lo ≡ from → s + hi ≡ to → between lo hi b ≡ between from to (s + b)
-between-shift s lo hi b from to p q =
-    elim (decLe lo b) [
-      | no l ↦ between-low lo hi b (omega arith) ∙ sym (between-low from to (s + b) (omega arith))
-      | yes l ↦
-          elim (decLe hi b) [
-            | yes h ↦ between-high lo hi b h ∙ sym (between-high from to (s + b) (omega arith))
-            | no h ↦ between-yes lo hi b l (omega arith) ∙ sym (between-yes from to (s + b) (omega arith) (omega arith))
-          ]
-    ]
-
-and-or : (e s t : Bool) → (e and s) or (e and t) ≡ e and (s or t)
-unfolding _and_ _or_
-and-or true s t = refl
-and-or false s t = refl
-
--- the jobs from, .., to - 1 of the row of machine i are changed by op
-pub record Changed (op : Bool → Bool → Bool) (rows rows′ : List ℕ) (i from to : ℕ) : Type 0 where
-  pub long : length rows′ ≡ length rows
-  pub each : (k b : ℕ) → k < 24 → b < 256 → inRow rows′ k b ≡ op (inRow rows k b) (eqb k i and between from to b)
-
-module _ (op : Bool → Bool → Bool) (keep : (a : Bool) → op a false ≡ a) (i : ℕ) (few : i < 24) where
-  pub changed-none : (rows : List ℕ) (from : ℕ) → Changed op rows rows i from from
-  changed-none rows from = record {
-    long = refl;
-    each = λ k b l u.
-        let e : between from from b ≡ false = elim (decLe from b) [
-          | yes z ↦ between-high from from b z
-          | no z ↦ between-low from from b (omega arith)
-        ] in
-        sym (ap (op (inRow rows k b)) (and-no-right (eqb k i) (between from from b) e) ∙ keep (inRow rows k b));
-  }
-
-  -- one word, whose bits lo, .., hi - 1 are changed
-  module _ (rows : List ℕ) (q lo hi x from to : ℕ) (long : length rows ≡ 96) (low : q < 4) (high : hi ≤ 64)
-      (begins : 64 * q + lo ≡ from) (ends : 64 * q + hi ≡ to)
-      (bits : (k : ℕ) → k < 64 → has x (suc k) ≡ op (has (getD rows (4 * i + q) 0) (suc k)) (between lo hi k)) where
-    word-here : (k b : ℕ) → k ≡ i → b / 64 ≡ q
-        → inRow (set rows (4 * i + q) x) k b ≡ op (inRow rows k b) (eqb k i and between from to b)
-    unfolding inRow _and_
-    word-here k b e d =
-        let s : between lo hi (b % 64) ≡ between from to (64 * q + b % 64) = between-shift (64 * q) lo hi (b % 64) from to begins ends in
-        let t : 64 * q + b % 64 ≡ b = omega arith in
-        rw (eq-eqb k i e, e, d, getD-set-same rows (4 * i + q) x 0 (omega arith))
-        (bits (b % 64) (omega arith) ∙ ap (op (has (getD rows (4 * i + q) 0) (suc (b % 64)))) (rw t at s))
-
-    word-else : (k b : ℕ) → (4 * k + b / 64 ≡ 4 * i + q → ⊥) → eqb k i and between from to b ≡ false
-        → inRow (set rows (4 * i + q) x) k b ≡ op (inRow rows k b) (eqb k i and between from to b)
-    unfolding inRow
-    word-else k b n e =
-        rw (getD-set-other rows (4 * i + q) (4 * k + b / 64) x 0 n, e) (sym (keep (has (getD rows (4 * k + b / 64) 0) (suc (b % 64)))))
-
-    changed-word : Changed op rows (set rows (4 * i + q) x) i from to
-    changed-word = record {
-      long = length-set rows (4 * i + q) x;
-      each = λ k b l u.
-          elim (ℕ-discrete k i) [
-            | no n ↦ word-else k b (λ z. n (omega arith)) (and-no-left (eqb k i) (between from to b) (ne-eqb k i n))
-            | yes e ↦
-                elim (ℕ-discrete (b / 64) q) [
-                  | yes d ↦ word-here k b e d
-                  | no d ↦
-                      word-else k b (λ z. d (omega arith))
-                      (and-no-right (eqb k i) (between from to b)
-                      (elim (decLe from b) [
-                        | yes f ↦ between-high from to b (omega arith)
-                        | no f ↦ between-low from to b (omega arith)
-                      ]))
-                ]
-          ];
-    }
-
-  -- one word more
-  pub changed-more : ((a s t : Bool) → op (op a s) t ≡ op a (s or t)) → (rows rows′ : List ℕ) (from mid to q lo hi x : ℕ)
-      → length rows ≡ 96 → q < 4 → hi ≤ 64 → 64 * q + lo ≡ mid → 64 * q + hi ≡ to → from ≤ mid → mid ≤ to
-      → ((k : ℕ) → k < 64 → has x (suc k) ≡ op (has (getD rows′ (4 * i + q) 0) (suc k)) (between lo hi k))
-      → Changed op rows rows′ i from mid → Changed op rows (set rows′ (4 * i + q) x) i from to
-  changed-more join rows rows′ from mid to q lo hi x n low high begins ends l u bits v =
-      let w = changed-word rows′ q lo hi x mid to (v .long ∙ n) low high begins ends bits in
-      record {
-        long = w .long ∙ v .long;
-        each = λ k b p q.
-            w .each k b p q
-            ∙ ap (λ (a : Bool). op a (eqb k i and between mid to b)) (v .each k b p q)
-            ∙ join (inRow rows k b) (eqb k i and between from mid b) (eqb k i and between mid to b)
-            ∙ ap (op (inRow rows k b))
-            (and-or (eqb k i) (between from mid b) (between mid to b) ∙ ap (λ (t : Bool). eqb k i and t) (between-join from mid to b l u));
-      }
+  changed : (k b : ℕ) → k < 24 → b < 256
+      → inRow (set rows (4 * i + q) x) k b ≡ op (inRow rows k b) (eqb k i and between (64 * q + t) (64 * q + t + 1) b)
+  changed k b l u =
+      elim (ℕ-discrete k i) [
+        | no n ↦ word-else k b (λ z. n (omega arith)) (and-no-left (eqb k i) (between (64 * q + t) (64 * q + t + 1) b) (ne-eqb k i n))
+        | yes e ↦
+            elim (ℕ-discrete (b / 64) q) [
+              | yes d ↦ word-here k b e d
+              | no d ↦
+                  word-else k b (λ z. d (omega arith))
+                  (and-no-right (eqb k i) (between (64 * q + t) (64 * q + t + 1) b)
+                  (sym (between-one (64 * q + t) b) ∙ ne-eqb b (64 * q + t) (λ z. d (omega arith))))
+            ]
+      ]
 
 -- ---- taken out, and put in
 
@@ -337,14 +257,20 @@ less a t = a and not t
 pub less-keep : (a : Bool) → less a false ≡ a
 less-keep a = and-true a
 
-pub less-join : (a s t : Bool) → less (less a s) t ≡ less a (s or t)
-unfolding _and_ _or_
-less-join true true t = refl
-less-join true false t = refl
-less-join false s t = refl
+module _ (rows : List ℕ) (i q t : ℕ) (long : length rows ≡ 96) (few : i < 24) (low : q < 4) (high : t < 64) where
+  pub word-less : (x : ℕ) → ((k : ℕ) → k < 64 → has x (suc k) ≡ less (has (getD rows (4 * i + q) 0) (suc k)) (eqb k t))
+      → Out rows (set rows (4 * i + q) x) i (64 * q + t) (64 * q + t + 1)
+  word-less x h = record { long = length-set rows (4 * i + q) x; each = changed less less-keep rows i q t x long few low high h }
 
-pub changed-out : (rows rows′ : List ℕ) (i from to : ℕ) → Changed less rows rows′ i from to → Out rows rows′ i from to
-changed-out rows rows′ i from to v = record { long = v .long; each = v .each }
+  pub word-in : (x : ℕ) → ((k : ℕ) → k < 64 → has x (suc k) ≡ has (getD rows (4 * i + q) 0) (suc k) or eqb k t)
+      → In rows (set rows (4 * i + q) x) i (64 * q + t) (64 * q + t + 1)
+  word-in x h = record { long = length-set rows (4 * i + q) x; each = changed _or_ or-false rows i q t x long few low high h }
 
-pub changed-in : (rows rows′ : List ℕ) (i from to : ℕ) → Changed _or_ rows rows′ i from to → In rows rows′ i from to
-changed-in rows rows′ i from to v = record { long = v .long; each = v .each }
+-- the word was x
+pub word-out : (rows : List ℕ) (i q t : ℕ) → length rows ≡ 96 → i < 24 → q < 4 → t < 64
+    → (x y : ℕ) → ((k : ℕ) → k < 64 → has y (suc k) ≡ less (has x (suc k)) (eqb k t))
+    → Out (set rows (4 * i + q) x) (set rows (4 * i + q) y) i (64 * q + t) (64 * q + t + 1)
+word-out rows i q t long few low high x y h =
+    rw (← set-set rows (4 * i + q) x y)
+    (word-less (set rows (4 * i + q) x) i q t (length-set rows (4 * i + q) x ∙ long) few low high y
+    (λ k l. h k l ∙ rw (getD-set-same rows (4 * i + q) x 0 (omega arith))))

@@ -1,6 +1,6 @@
 -- Laws of the levels: the least machine of a set stands on the lowest level that meets it, and a lift keeps the levels.
 -- Assumes nothing.
-use Prim.Native.Nat.{ℕ, suc, _^_, _≤_, _<_}
+use Prim.Native.Nat.{ℕ, suc, _≤_, _<_}
 use mathlib.Core.Path.{_≡_, refl, sym, ap, _∙_}
 use mathlib.Core.Bool.{Bool, true, false, not}
 use mathlib.Core.List.{List}
@@ -11,13 +11,12 @@ use lib.ListN.{length, getD, set, length-set}
 use lib.Seq.{getD-set-same, getD-set-other, lt-length-set}
 use lib.Dec.{eqb, leb}
 use borrow.Author.Tests.{eq-eqb, ne-eqb, eqb-true, le-leb}
-use Rattle.rules.specs.Fold.{_and_, _or_, at, put, anyTo, leastTo}
-use Rattle.theory.proofs.Logic.{byTest, conflict, and-left, and-right, and-mk, or-skip, or-left}
-use Rattle.theory.proofs.View.{None, First, first, Least, least, Some, here, any-some, any-at, any-none}
+use Rattle.rules.specs.Fold.{_and_, _or_, at, put, leastTo}
+use Rattle.theory.proofs.Logic.{conflict, and-left, and-right, and-mk, or-skip, or-left}
+use Rattle.theory.proofs.View.{None, First, first, Least, least, Some, here, any-some, any-at}
 use Rattle.theory.proofs.Fold.{at-put-same, at-put-other}
-use Rattle.arrays.specs.Sets.{has, SetOf, meet, Levels, Leveled, Reached, LowestIn, Lifted}
+use Rattle.arrays.specs.Sets.{has, SetOf, meet, Levels, Leveled, LowestIn, Lifted}
 use Rattle.arrays.proofs.Search.{and-no-right}
-use Rattle.arrays.proofs.Words.{empty-zero}
 use Rattle.arrays.proofs.Masks.{set-same}
 
 pub levels-leveled : {levels heights : List ℕ} {m : ℕ} → Levels levels heights m → Leveled levels
@@ -43,28 +42,10 @@ module _ (mask from m : ℕ) (levels heights : List ℕ) (v : Levels levels heig
   stands i h s l u t =
       eqb-true (at heights i) h (and-right (leb i m) _ (sym (v .level h s .each i l u) ∙ and-right (has mask i) _ t))
 
-  meets-at : (i : ℕ) → 0 < i → i ≤ 24 → has mask i ≡ true → meet mask (getD levels (at heights i) 0) ≡ true
+  pub meets-at : (i : ℕ) → 0 < i → i ≤ 24 → has mask i ≡ true → meet mask (getD levels (at heights i) 0) ≡ true
   unfolding meet
   meets-at i l u t =
       any-at 24 (λ j. has mask j and has (getD levels (at heights i) 0) j) i l u (both i (at heights i) l u t refl)
-
-  -- a set that is not empty meets a level
-  pub reached : (i : ℕ) → 0 < i → i ≤ 24 → has mask i ≡ true → Reached mask levels from
-  reached i l u t = record {
-    height = at heights i;
-    low = a .above i l u t;
-    high = a .low i l (a .known i l u t);
-    meets = meets-at i l u t;
-  }
-
-  pub reached-some : mask < 2 ^ 24 → (mask ≡ 0 → ⊥) → Reached mask levels from
-  reached-some h n =
-      byTest (anyTo 24 (λ i. has mask i))
-      (λ t. member (any-some 24 (λ i. has mask i) t))
-      (λ t. absurd (n (empty-zero mask h (any-none 24 (λ i. has mask i) t))))
-    where
-      member : Some 24 (λ i. has mask i) → Reached mask levels from
-      member (here i l u t) = reached i l u t
 
   module _ (machine height : ℕ) (r : LowestIn mask levels from machine height) where
     first-of : First 24 (λ i. has mask i and has (getD levels height 0) i) machine

@@ -4,6 +4,7 @@ use Prim.Native.Nat.{ℕ, suc, _+_, _*_, _-_, _/_, _%_, _^_, _<_, _≤_}
 use mathlib.Core.Path.{_≡_}
 use mathlib.Core.Bool.{Bool, not}
 use mathlib.Core.List.{List}
+use lib.Count.{trailingZeros}
 use lib.ListN.{length, getD}
 use lib.Dec.{eqb, leb, ltb}
 use Rattle.rules.specs.Fold.{_and_, _or_, pick}
@@ -41,3 +42,10 @@ pub record Empty (rows rows′ : List ℕ) (i : ℕ) : Type 0 where
 pub record Entered (places : List ℕ) (n : ℕ) (rows : List ℕ) : Type 0 where
   pub long : length rows ≡ 96
   pub each : (i b : ℕ) → i < 24 → b < 256 → inRow rows i b ≡ (ltb b n and eqb (getD places b 0) (suc i))
+
+-- r is the lowest bit of the word x, alone; and what is left of x without it
+pub record LowestBit (x r : ℕ) : Type 0 where
+  pub some : 0 < r
+  pub within : r ≤ x
+  pub alone : (k : ℕ) → k < 64 → has r (suc k) ≡ eqb k (trailingZeros 64 x)
+  pub rest : (k : ℕ) → k < 64 → has (x - r) (suc k) ≡ has x (suc k) and not (eqb k (trailingZeros 64 x))

@@ -32,13 +32,6 @@ pub record Leveled (levels : List ℕ) : Type 0 where
   pub long : length levels ≡ 64
   pub small : (h : ℕ) → h < 64 → getD levels h 0 < 2 ^ 24
 
--- some level from `from` on meets the set
-pub record Reached (mask : ℕ) (levels : List ℕ) (from : ℕ) : Type 0 where
-  pub height : ℕ
-  pub low : from ≤ height
-  pub high : height < 64
-  pub meets : meet mask (getD levels height 0) ≡ true
-
 -- the lowest level from `from` on that meets the set, and the lowest machine in both
 pub record LowestIn (mask : ℕ) (levels : List ℕ) (from machine height : ℕ) : Type 0 where
   pub low : from ≤ height

@@ -2,25 +2,10 @@
 ghost use mathlib.Core.Path.{_≡_};
 ghost use Prim.Native.Nat.{ℕ, suc, _+_, _-_, _*_, _/_, _<_, _≤_};
 ghost use lib.ListN.{length, getD};
-ghost use Rattle.rules.specs.Fold.{anyTo, firstTo};
+ghost use lib.Dec.{eqb};
+ghost use Rattle.rules.specs.Fold.{anyTo};
 ghost use Rattle.arrays.specs.Sets.{has};
-ghost use Rattle.arrays.specs.Rows.{inRow, between, Out, In, Over, Empty, Entered};
-
-// The lowest job of a row, as a number from 1; 0 where there is none.
-pub fn first_in(rows: &[u64], i: usize) -> usize
-    requires { ⌜ (i < 24) × (length (now rows) ≡ 96) ⌝ }
-    ensures { λ r. ⌜ r ≡ firstTo 256 (λ b. inRow (now (rows .entry)) i (b - 1)) ⌝ }
-{
-    let mut q: usize = 0;
-    while q < 4 {
-        let x = rows[4 * i + q];
-        if x != 0 {
-            return 64 * q + u64::trailing_zeros(x) as usize + 1;
-        }
-        q += 1;
-    }
-    0
-}
+ghost use Rattle.arrays.specs.Rows.{inRow, Out, In, Over, Empty, Entered, LowestBit};
 
 // A row has some job.
 pub fn some_in(rows: &[u64], i: usize) -> bool
@@ -54,40 +39,20 @@ pub fn clear_row(rows: &mut [u64], i: usize)
     }
 }
 
-// The bits lo, .., hi - 1 of a word.
-fn span(lo: usize, hi: usize) -> u64
-    requires { ⌜ (lo < 64) × (0 < hi) × (hi ≤ 64) ⌝ }
-    ensures { λ r. ⌜ ((k : ℕ) → k < 64 → has r (suc k) ≡ between lo hi k) ⌝ }
+// The lowest bit of a word that is not 0.
+pub fn lowest_bit(x: u64) -> u64
+    requires { ⌜ 0 < x ⌝ }
+    ensures { λ r. ⌜ LowestBit x r ⌝ }
 {
-    u64::MAX << lo & u64::MAX >> (64 - hi)
+    x & (!x + 1)
 }
 
-// Where the jobs from, .., to - 1 end that share a word with the first of them.
-fn word_end(from: usize, to: usize) -> usize
-    requires { ⌜ (from < to) × (to ≤ 256) ⌝ }
-    ensures { λ r. ⌜ (from < r) × (r ≤ to) × (r ≤ 64 * (from / 64) + 64) ⌝ }
+// Bit k of a word, alone.
+fn one_bit(k: usize) -> u64
+    requires { ⌜ k < 64 ⌝ }
+    ensures { λ r. ⌜ ((j : ℕ) → j < 64 → has r (suc j) ≡ eqb j k) ⌝ }
 {
-    let end = 64 * (from / 64) + 64;
-    if end < to { end } else { to }
-}
-
-// The jobs from, .., to - 1 go from the row of machine `i` to the row of machine `j` of `others`, a word at a time.
-pub fn pass_on(rows: &mut [u64], others: &mut [u64], i: usize, j: usize, from: usize, to: usize)
-    requires { ⌜ (i < 24) × (length (now rows) ≡ 96) × (j < 24) × (length (now others) ≡ 96) × (from < to) × (to ≤ 256) ⌝ }
-    ensures { λ _. ⌜ Out (now (rows .entry)) (now (rows .exit)) i from to ⌝ }
-    ensures { λ _. ⌜ In (now (others .entry)) (now (others .exit)) j from to ⌝ }
-{
-    let mut b = from;
-    while b < to {
-        let q = b / 64;
-        let end = word_end(b, to);
-        let x = span(b % 64, end - 64 * q);
-        let w = 4 * i + q;
-        rows[w] = rows[w] & !x;
-        let v = 4 * j + q;
-        others[v] = others[v] | x;
-        b = end;
-    }
+    1 << k
 }
 
 // The job at index `b` is put into the row of machine `i`.
@@ -95,9 +60,8 @@ pub fn enter(rows: &mut [u64], i: usize, b: usize)
     requires { ⌜ (i < 24) × (length (now rows) ≡ 96) × (b < 256) ⌝ }
     ensures { λ _. ⌜ In (now (rows .entry)) (now (rows .exit)) i b (b + 1) ⌝ }
 {
-    let k = b % 64;
     let w = 4 * i + b / 64;
-    rows[w] = rows[w] | span(k, k + 1);
+    rows[w] = rows[w] | one_bit(b % 64);
 }
 
 // The job at index `b` is taken out of the row of machine `i`.
@@ -105,9 +69,8 @@ pub fn leave(rows: &mut [u64], i: usize, b: usize)
     requires { ⌜ (i < 24) × (length (now rows) ≡ 96) × (b < 256) ⌝ }
     ensures { λ _. ⌜ Out (now (rows .entry)) (now (rows .exit)) i b (b + 1) ⌝ }
 {
-    let k = b % 64;
     let w = 4 * i + b / 64;
-    rows[w] = rows[w] & !span(k, k + 1);
+    rows[w] = rows[w] & !one_bit(b % 64);
 }
 
 // The jobs on each machine, as rows.

@@ -5,19 +5,8 @@ ghost use mathlib.Core.Logic.{_≢_};
 ghost use Prim.Native.Nat.{suc, _+_, _-_, _<_, _≤_, _^_};
 ghost use lib.ListN.{length, getD};
 ghost use lib.Dec.{leb, eqb};
-ghost use Rattle.rules.specs.Fold.{_and_, _or_, firstTo};
-ghost use Rattle.arrays.specs.Sets.{has, SetOf, Leveled, Reached, LowestIn, Lifted};
-
-// The lowest machine of a set, 0 where it is empty.
-pub fn lowest(x: u32) -> usize
-    requires { ⌜ x < 2 ^ 24 ⌝ }
-    ensures { λ r. ⌜ r ≡ firstTo 24 (λ i. has x i) ⌝ }
-{
-    if x == 0 {
-        return 0;
-    }
-    u32::trailing_zeros(x) as usize + 1
-}
+ghost use Rattle.rules.specs.Fold.{_and_, _or_};
+ghost use Rattle.arrays.specs.Sets.{has, SetOf, Leveled, Lifted};
 
 // The set `x` and machine `i`.
 pub fn with(x: u32, i: usize) -> u32
@@ -35,14 +24,6 @@ pub fn without(x: u32, i: usize) -> u32
     !(1 << (i - 1)) & x
 }
 
-// The machines in both sets.
-pub fn common(x: u32, y: u32) -> u32
-    requires { ⌜ (x < 2 ^ 24) × (y < 2 ^ 24) ⌝ }
-    ensures { λ r. ⌜ SetOf (λ j. has x j and has y j) r ⌝ }
-{
-    x & y
-}
-
 // The machines 1 to `m` that a job may run on, one byte a machine from `base` on.
 pub fn mask_at(eligible: &[u8], base: usize, m: usize) -> u32
     requires { ⌜ (m ≤ 24) × (base + m ≤ length (now eligible)) ⌝ }
@@ -57,27 +38,6 @@ pub fn mask_at(eligible: &[u8], base: usize, m: usize) -> u32
         j += 1;
     }
     x
-}
-
-// A machine and its height.
-pub struct Least {
-    pub machine: usize,
-    pub height: usize,
-}
-
-// Of the machines of `mask`, the lowest of least height, where none is below `from`.
-pub fn least_for(mask: u32, levels: &[u32], from: usize) -> Least
-    requires { ⌜ (mask < 2 ^ 24) × Leveled (now levels) × Reached mask (now levels) from ⌝ }
-    ensures { λ r. ⌜ LowestIn mask (now (levels .entry)) from (r .machine) (r .height) ⌝ }
-{
-    let mut h = from;
-    while mask & levels[h] == 0 {
-        h += 1;
-    }
-    Least {
-        machine: lowest(mask & levels[h]),
-        height: h,
-    }
 }
 
 // Machine `i` goes from level `h` to level `g`.

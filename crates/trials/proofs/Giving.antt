@@ -1,14 +1,14 @@
 -- What is known of a hand-over before it is made: ranges, and where the job goes.
 -- Assumes nothing.
-use Prim.Native.Nat.{ℕ, zero, suc, _+_, _-_, _*_, _≤_, _<_, _^_}
-use mathlib.Core.Path.{_≡_, refl, sym, ap, subst, _∙_}
+use Prim.Native.Nat.{ℕ, suc, _+_, _-_, _*_, _≤_, _<_}
+use mathlib.Core.Path.{_≡_, sym, ap, _∙_}
 use mathlib.Core.Bool.{Bool, true, false}
 use mathlib.Core.List.{List}
 use native.Mathlib.Nat.{le-refl, le-trans, mul-le-mul-right, mul-le-mul-left}
 use native.Mathlib.Omega.{arith}
-use lib.ListN.{length, take, getD}
-use lib.Dec.{eqb, lit<}
-use Rattle.rules.specs.Fold.{pick, at, sumTo, leastTo}
+use lib.ListN.{take, getD}
+use lib.Dec.{eqb}
+use Rattle.rules.specs.Fold.{pick, at, leastTo}
 use Rattle.rules.specs.Instance.{Instance, Assignment, n, minutesOf, eligible}
 use Rattle.rules.specs.Load.{load}
 use Rattle.rules.specs.Trial.{liftBound, pushBound}
@@ -16,16 +16,14 @@ use Rattle.theory.proofs.Logic.{conflict}
 use Rattle.theory.proofs.View.{Some, here, Least, least}
 use Rattle.theory.proofs.Fold.{sumTo-bound}
 use Rattle.theory.proofs.Makespan.{load-ge}
-use Rattle.theory.proofs.Lifts.{lifts-bound}
-use Rattle.theory.proofs.Pushes.{pushes-bound}
 use Rattle.theory.proofs.Underloaded.{Runnable}
 use Rattle.theory.proofs.Turn.{leastFor}
 use Rattle.trials.specs.declared.State.{State}
-use Rattle.arrays.specs.Sets.{has, Reached, LowestIn}
+use Rattle.arrays.specs.Sets.{has, meet, LowestIn}
 use Rattle.trials.specs.Reads.{Reads}
-use Rattle.trials.specs.Track.{stateOf, Setup, Tracks, Turn, Giving}
+use Rattle.trials.specs.Track.{stateOf, Giving}
 use Rattle.trials.proofs.Take.{at-take}
-use Rattle.arrays.proofs.Levels.{Above, reached, lowest-least}
+use Rattle.arrays.proofs.Levels.{Above, meets-at, lowest-least}
 use Rattle.trials.proofs.Raising.{least-agree}
 use Rattle.trials.proofs.Handing.{OnIt, on-it, machine-in}
 
@@ -67,6 +65,9 @@ module _ {I : Instance} {a limit m c : ℕ} {lengths sets : List ℕ} {i b : ℕ
   pub job-in : b < c
   job-in = omega (arith, here-it .job, reads .jobs)
 
+  pub stands-below : getD (t .machines) i 0 ≡ suc (getD (t .jobs) b 0)
+  stands-below = here-it .below
+
   pub giver-in : i < m
   giver-in = omega (arith, machine-in I a t i (v .turn), reads .machines)
 
@@ -89,15 +90,15 @@ module _ {I : Instance} {a limit m c : ℕ} {lengths sets : List ℕ} {i b : ℕ
           let w = reads .valid .ranged (suc b) q z in
           (w .0, w .1, z)
 
-  pub reaches : Reached (getD sets b 0) (t .levels) (getD (t .jobs) b 0 - 1)
-  unfolding Runnable
-  reaches = from (v .setup .runnable (suc b) (omega arith) (here-it .job))
-    where
-      from : Some (I .m) (λ q. eligible I (suc b) q) → Reached (getD sets b 0) (t .levels) (getD (t .jobs) b 0 - 1)
-      from (here q q0 qm e) =
-          reached (getD sets b 0) (getD (t .jobs) b 0 - 1) m (t .levels) (t .machines)
-          (rw (reads .machines) at (v .turn .tracks .levels)) above q q0 (omega (arith, reads .machines, reads .few))
-          (reads .masks (suc b) q (omega arith) job-in q0 (omega (arith, reads .machines, reads .few)) ∙ e)
+  -- the giver is among the machines that the job may run on, at its own height
+  pub meets-giver : meet (getD sets b 0) (getD (t .levels) (getD (t .machines) i 0) 0) ≡ true
+  meets-giver =
+      let u = machine-in I a t i (v .turn) in
+      let o = at-take (n I) (t .places) (suc b) (here-it .job) ∙ here-it .on in
+      meets-at (getD sets b 0) (getD (t .jobs) b 0 - 1) m (t .levels) (t .machines) (rw (reads .machines) at (v .turn .tracks .levels)) above
+      (suc i) (omega arith) (omega (arith, u, reads .machines, reads .few))
+      (reads .masks (suc b) (suc i) (omega arith) job-in (omega arith) (omega (arith, u, reads .machines, reads .few))
+      ∙ v .turn .tracks .counted .shape .listed (suc b) (suc i) (omega arith) o)
 
   pub minutes-at : getD lengths b 0 ≡ minutesOf I (suc b)
   minutes-at = reads .minutes (suc b) (omega arith) job-in

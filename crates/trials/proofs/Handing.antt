@@ -1,27 +1,22 @@
 -- One job handed over, on a trial's arrays: the rules' steps lead there, and what the arrays stand for is kept.
 -- Assumes nothing.
-use Prim.Native.Nat.{ℕ, zero, suc, _+_, _-_, _*_, _≤_, _<_}
-use mathlib.Core.Path.{_≡_, refl, sym, ap, subst, _∙_}
-use mathlib.Core.Bool.{Bool, true, false}
-use mathlib.Core.Logic.{_≢_}
+use Prim.Native.Nat.{ℕ, suc, _+_, _≤_, _<_}
+use mathlib.Core.Path.{_≡_, sym, ap, _∙_}
 use mathlib.Core.List.{List}
 use native.Mathlib.Omega.{arith}
-use native.Mathlib.Decide.{ℕ-discrete, decLe}
-use lib.ListN.{length, take, length-take}
-use lib.Dec.{ltb, leb, eqb}
-use borrow.Author.Tests.{ltb-true, ltb-false, lt-ltb, le-ltb, leb-true, leb-false, le-leb, lt-leb}
-use Rattle.rules.specs.Fold.{_and_, pick, at, put, firstTo, anyTo}
+use lib.ListN.{length, take}
+use lib.Dec.{eqb}
+use borrow.Author.Tests.{eqb-true}
+use Rattle.rules.specs.Fold.{_and_, pick, at, put}
 use Rattle.rules.specs.Instance.{Instance, n, minutesOf, eligible}
-use Rattle.rules.specs.Load.{load, longest}
 use Rattle.rules.specs.Trial as T
-use Rattle.rules.specs.Trial.{machineArc, someUnderloaded, underloaded, overloaded}
-use Rattle.theory.proofs.Logic.{byTest, conflict, and-left, and-right, and-mk}
-use Rattle.theory.proofs.View.{None, First, first, first-hit, Least, least, Some, here, any-some, any-at}
-use Rattle.theory.proofs.Fold.{at-put-same, at-put-other}
+use Rattle.rules.specs.Trial.{machineArc}
+use Rattle.theory.proofs.Logic.{and-left, and-right}
+use Rattle.theory.proofs.View.{First, first, Least, least}
 use Rattle.theory.proofs.Heights.{Shape, machineArc-eq, put-cases}
 use Rattle.theory.proofs.Ending.{Counted, counted-step}
 use Rattle.theory.proofs.Iterate.{Leads, leads-keeps}
-use Rattle.theory.proofs.Turn.{able, Placed, nextOff, leastFor}
+use Rattle.theory.proofs.Turn.{able, nextOff, leastFor}
 use Rattle.theory.proofs.Handed.{handed, hand-leads}
 use Rattle.trials.specs.declared.State.{State}
 use Rattle.trials.specs.Track.{stateOf, Setup, Tracks, Turn}
@@ -70,10 +65,11 @@ module _ (I : Instance) (a : ℕ) (t : State) (i : ℕ) (k : Turn I a (suc i) t)
       from (First.found j l e z) = l
 
   module _ (b : ℕ) (z : nextOff I (stateOf (I .m) (n I) t) (suc i) ≡ suc b) where
-    -- the job is one, on machine i + 1
+    -- the job is one, on machine i + 1 and just below it
     pub record OnIt : Type 0 where
       pub job : b < n I
       pub on : at (t .places) (suc b) ≡ suc i
+      pub below : at (t .machines) (suc i) ≡ suc (at (t .jobs) (suc b))
 
     pub on-it : OnIt
     unfolding nextOff
@@ -86,6 +82,9 @@ module _ (I : Instance) (a : ℕ) (t : State) (i : ℕ) (k : Turn I a (suc i) t)
         from (First.found c l e y) = record {
           job = l;
           on = sym (at-take (n I) (t .places) (suc b) l) ∙ machineArc-eq s₀ (suc i) (suc b) (and-left _ _ e);
+          below = sym (at-take (I .m) (t .machines) (suc i) machine-in)
+              ∙ eqb-true _ _ (and-right (machineArc s₀ (suc i) (suc b)) _ e)
+              ∙ ap suc (at-take (n I) (t .jobs) (suc b) l);
         }
 
     module _ (j : ℕ) (f : leastFor I (stateOf (I .m) (n I) t) (suc b) ≡ suc j) where

@@ -1,4 +1,3 @@
-pub mod Alike
 pub mod Around
 pub mod Beginning
 pub mod Given
@@ -6,7 +5,6 @@ pub mod Giving
 pub mod Going
 pub mod Groups
 pub mod Handing
-pub mod Kept
 pub mod Lifting
 pub mod Moving
 pub mod Near
@@ -19,5 +17,4 @@ pub mod Take
 pub mod Trying
 pub mod Turning
 pub mod Verdict
-pub mod Watch
 pub mod Within

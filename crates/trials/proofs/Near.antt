@@ -1,25 +1,25 @@
--- The jobs around each machine: what a search among them finds, and what a run of hand-overs and a lift make of them.
+-- The jobs around each machine: what a search among them finds, and what a hand-over and a lift make of them.
 -- Assumes nothing.
-use Prim.Native.Nat.{ℕ, zero, suc, _+_, _-_, _*_, _/_, _%_, _≤_, _<_}
+use Prim.Native.Nat.{ℕ, zero, suc, _+_, _-_, _≤_, _<_}
 use mathlib.Core.Path.{_≡_, refl, sym, ap, _∙_}
-use mathlib.Core.Bool.{Bool, true, false, not}
-use mathlib.Core.Logic.{_⊎_, inl, inr, _≢_}
+use mathlib.Core.Bool.{Bool, true, false}
+use mathlib.Core.Logic.{_≢_}
 use mathlib.Core.List.{List}
 use native.Mathlib.Numerals.{add-one}
 use native.Mathlib.Omega.{arith}
-use native.Mathlib.Decide.{decLe, ℕ-discrete}
-use lib.ListN.{length, getD, set, replicate}
+use native.Mathlib.Decide.{ℕ-discrete}
+use lib.ListN.{length, getD, set}
 use lib.Seq.{getD-set-same, getD-set-other}
-use lib.Dec.{ltb, leb, eqb}
-use borrow.Author.Tests.{ltb-true, lt-ltb, le-ltb, leb-true, le-leb, lt-leb, eqb-true, eq-eqb, ne-eqb, not-true}
+use lib.Dec.{ltb, eqb}
+use borrow.Author.Tests.{ltb-true, lt-ltb, eqb-true, eq-eqb, ne-eqb, not-true}
 use Rattle.rules.specs.Fold.{_and_, _or_, pick, at, firstTo, anyTo, leastTo}
-use Rattle.theory.proofs.Logic.{byTest, conflict, and-left, and-right, and-mk, or-cases, or-left, or-right, not-mk}
-use Rattle.theory.proofs.Heights.{at-zeros}
+use Rattle.theory.proofs.Logic.{byTest, conflict, and-left, and-right, and-mk, or-cases, or-right, or-false}
 use Rattle.theory.proofs.View.{None, First, first, first-hit, first-miss, Least, least, Some, here, any-some, any-none}
-use Rattle.arrays.proofs.Words.{set-zero}
+use Rattle.arrays.proofs.Search.{and-no-right}
+use Rattle.arrays.proofs.JobRows.{less-keep}
 use Rattle.arrays.proofs.Entering.{same-bool, between-is, is-between}
 use Rattle.arrays.specs.Rows.{inRow, between, Out, In, Over, Empty}
-use Rattle.trials.specs.Near.{spot, Near, Ranged, Rises}
+use Rattle.trials.specs.Near.{spot, Near, Rises}
 
 -- ---- tests
 
@@ -44,129 +44,98 @@ spot-suc n places i b x y =
 pub spot-off : (n : ℕ) (places : List ℕ) (i b x y : ℕ) → x ≢ y → spot n places i b x y ≡ false
 spot-off n places i b x y e = byTest (spot n places i b x y) (λ t. absurd (e (spot-is n places i b x y t .2))) (λ t. t)
 
--- inside or outside of a range
-range : {X : Type 0} (from to b : ℕ) → (from ≤ b → b < to → between from to b ≡ true → X) → ((b < from) ⊎ (to ≤ b) → between from to b ≡ false → X) → X
-range from to b f g =
-    byTest (between from to b)
-    (λ t. let r = between-is from to b t in f (r .0) (r .1) t)
-    (λ t. g (elim (decLe from b) [
-      | yes l ↦ elim (decLe to b) [
-        | yes u ↦ inr u
-        | no u ↦ conflict (is-between from to b l (omega arith)) t
-      ]
-      | no l ↦ inl (omega arith)
-    ]) t)
+-- ---- after a hand-over
 
--- ---- after a run of hand-overs
-
+-- the job at index b, which stood just below the machine at index i, stands just above the one at index j
 module _ {below level above machines jobs places : List ℕ} {n : ℕ} (v : Near below level above machines jobs places n)
-    {places′ jobs′ below′ above′ : List ℕ} {i low j g from to : ℕ} (r : Ranged places jobs places′ jobs′ i low j g from to)
-    (giver : getD machines i 0 ≡ suc low) (taker : g ≡ suc (getD machines j 0)) (most : to ≤ n)
-    (out : Out below below′ i from to) (came : In above above′ j from to) where
-  below-after : (k b : ℕ) → k < 24 → b < 256 → inRow below′ k b ≡ spot n places′ k b (getD machines k 0) (suc (getD jobs′ b 0))
+    {below′ above′ : List ℕ} {i j b : ℕ} (il : i < 24) (bl : b < 256) (has-it : inRow below i b ≡ true) (pl : b < length places) (jl : b < length jobs)
+    (out : Out below below′ i b (b + 1)) (came : In above above′ j b (b + 1)) where
+  abbrev places′ : List ℕ
+  places′ = set places b (suc j)
+
+  abbrev jobs′ : List ℕ
+  jobs′ = set jobs b (suc (getD machines j 0))
+
+  was : (b < n) × (getD places b 0 ≡ suc i) × (getD machines i 0 ≡ suc (getD jobs b 0))
+  was = spot-is n places i b _ _ (sym (v .isBelow i b il bl) ∙ has-it)
+
+  -- that job, or another
+  by-job : {X : Type 0} (c : ℕ)
+      → (c < n → getD places c 0 ≡ suc i → getD machines i 0 ≡ suc (getD jobs c 0) → getD places′ c 0 ≡ suc j → getD jobs′ c 0 ≡ suc (getD machines j 0)
+      → between b (b + 1) c ≡ true → X)
+      → (getD places′ c 0 ≡ getD places c 0 → getD jobs′ c 0 ≡ getD jobs c 0 → between b (b + 1) c ≡ false → X) → X
+  by-job {X} c f g = elim (ℕ-discrete c b) [
+    | yes e ↦
+        let p = ap (λ (x : ℕ). getD places x 0) e in
+        let q = ap (λ (x : ℕ). getD jobs x 0) e in
+        f (omega (arith, was)) (p ∙ was .1) (was .2 ∙ ap suc (sym q))
+        (ap (λ (x : ℕ). getD places′ x 0) e ∙ getD-set-same places b (suc j) 0 pl)
+        (ap (λ (x : ℕ). getD jobs′ x 0) e ∙ getD-set-same jobs b (suc (getD machines j 0)) 0 jl)
+        (is-between b (b + 1) c (omega arith) (omega arith))
+    | no e ↦
+        g (getD-set-other places b c (suc j) 0 e) (getD-set-other jobs b c (suc (getD machines j 0)) 0 e)
+        (byTest (between b (b + 1) c) (λ t. let w = between-is b (b + 1) c t in absurd (e (omega arith))) (λ t. t))
+  ]
+
+  below-after : (k c : ℕ) → k < 24 → c < 256 → inRow below′ k c ≡ spot n places′ k c (getD machines k 0) (suc (getD jobs′ c 0))
   unfolding _and_ between
-  below-after k b kl bl =
-      out .each k b kl bl
-      ∙ same-bool _ _
+  below-after k c kl cl =
+      out .each k c kl cl
+      ∙ by-job c
+      (λ m p q p′ q′ t. same-bool _ _
       (λ e.
-      let p = spot-is n places k b _ _ (sym (v .isBelow k b kl bl) ∙ and-left _ _ e) in
-      range from to b
-      (λ l u t. let q = r .inside b l u in
-      conflict (and-mk _ _ (eq-eqb k i (omega (arith, p, q))) t) (not-true _ (and-right (inRow below k b) _ e)))
-      (λ o t. let q = r .outside b o in is-spot n places′ k b _ _ (p .0) (q .0 ∙ p .1) (p .2 ∙ ap suc (sym (q .1)))))
+      let w = spot-is n places k c (getD machines k 0) (suc (getD jobs c 0)) (sym (v .isBelow k c kl cl) ∙ and-left _ _ e) in
+      conflict (and-mk _ _ (eq-eqb k i (omega (arith, p, w))) t) (not-true _ (and-right (inRow below k c) _ e)))
       (λ e.
-      let p = spot-is n places′ k b _ _ e in
-      range from to b
-      (λ l u t. let q = r .inside b l u in
-      let z : k ≡ j = omega (arith, p, q) in
-      absurd (omega (arith, p, q, taker, ap (λ (x : ℕ). getD machines x 0) z)))
-      (λ o t. let q = r .outside b o in
-      and-mk _ _ (v .isBelow k b kl bl ∙ is-spot n places k b _ _ (p .0) (sym (q .0) ∙ p .1) (p .2 ∙ ap suc (q .1)))
-      (not-mk {t = eqb k i and between from to b} (byTest (eqb k i) (λ c. rw c t) (λ c. rw c refl)))))
+      let w = spot-is n places′ k c (getD machines k 0) (suc (getD jobs′ c 0)) e in
+      let z : k ≡ j = omega (arith, p′, w) in
+      absurd (omega (arith, q′, w, ap (λ (x : ℕ). getD machines x 0) z))))
+      (λ p q t.
+      (byTest (eqb k i) (λ u. rw (u, t) (less-keep (inRow below k c))) (λ u. rw u (less-keep (inRow below k c))))
+      ∙ v .isBelow k c kl cl ∙ rw (← p, ← q) refl)
 
-  level-after : (k b : ℕ) → k < 24 → b < 256 → inRow level k b ≡ spot n places′ k b (getD machines k 0) (getD jobs′ b 0)
-  level-after k b kl bl =
-      v .isLevel k b kl bl
-      ∙ same-bool _ _
+  level-after : (k c : ℕ) → k < 24 → c < 256 → inRow level k c ≡ spot n places′ k c (getD machines k 0) (getD jobs′ c 0)
+  level-after k c kl cl =
+      v .isLevel k c kl cl
+      ∙ by-job c
+      (λ m p q p′ q′ t. same-bool _ _
       (λ e.
-      let p = spot-is n places k b _ _ e in
-      range from to b
-      (λ l u t. let q = r .inside b l u in
-      let z : k ≡ i = omega (arith, p, q) in
-      absurd (omega (arith, p, q, giver, ap (λ (x : ℕ). getD machines x 0) z)))
-      (λ o t. let q = r .outside b o in is-spot n places′ k b _ _ (p .0) (q .0 ∙ p .1) (p .2 ∙ sym (q .1))))
+      let w = spot-is n places k c (getD machines k 0) (getD jobs c 0) e in
+      let z : k ≡ i = omega (arith, p, w) in
+      absurd (omega (arith, q, w, ap (λ (x : ℕ). getD machines x 0) z)))
       (λ e.
-      let p = spot-is n places′ k b _ _ e in
-      range from to b
-      (λ l u t. let q = r .inside b l u in
-      let z : k ≡ j = omega (arith, p, q) in
-      absurd (omega (arith, p, q, taker, ap (λ (x : ℕ). getD machines x 0) z)))
-      (λ o t. let q = r .outside b o in is-spot n places k b _ _ (p .0) (sym (q .0) ∙ p .1) (p .2 ∙ q .1)))
+      let w = spot-is n places′ k c (getD machines k 0) (getD jobs′ c 0) e in
+      let z : k ≡ j = omega (arith, p′, w) in
+      absurd (omega (arith, q′, w, ap (λ (x : ℕ). getD machines x 0) z))))
+      (λ p q t. rw (← p, ← q) refl)
 
-  above-after : (k b : ℕ) → k < 24 → b < 256 → inRow above′ k b ≡ spot n places′ k b (suc (getD machines k 0)) (getD jobs′ b 0)
-  above-after k b kl bl =
-      came .each k b kl bl
-      ∙ same-bool _ _
-      (λ e. or-cases (inRow above k b) _ e
+  above-after : (k c : ℕ) → k < 24 → c < 256 → inRow above′ k c ≡ spot n places′ k c (suc (getD machines k 0)) (getD jobs′ c 0)
+  above-after k c kl cl =
+      came .each k c kl cl
+      ∙ by-job c
+      (λ m p q p′ q′ t. same-bool _ _
+      (λ e. or-cases (inRow above k c) _ e
       (λ f.
-      let p = spot-is n places k b _ _ (sym (v .isAbove k b kl bl) ∙ f) in
-      range from to b
-      (λ l u t. let q = r .inside b l u in
-      let z : k ≡ i = omega (arith, p, q) in
-      absurd (omega (arith, p, q, giver, ap (λ (x : ℕ). getD machines x 0) z)))
-      (λ o t. let q = r .outside b o in is-spot n places′ k b _ _ (p .0) (q .0 ∙ p .1) (p .2 ∙ sym (q .1))))
+      let w = spot-is n places k c (suc (getD machines k 0)) (getD jobs c 0) (sym (v .isAbove k c kl cl) ∙ f) in
+      let z : k ≡ i = omega (arith, p, w) in
+      absurd (omega (arith, q, w, ap (λ (x : ℕ). getD machines x 0) z)))
       (λ f.
       let z = eqb-true k j (and-left _ _ f) in
-      let w = between-is from to b (and-right (eqb k j) _ f) in
-      let q = r .inside b (w .0) (w .1) in
-      is-spot n places′ k b _ _ (omega (arith, w, most)) (q .2 ∙ ap suc (sym z)) (ap (λ (x : ℕ). suc (getD machines x 0)) z ∙ sym taker ∙ sym (q .3))))
+      is-spot n places′ k c _ _ m (p′ ∙ ap suc (sym z)) (ap (λ (x : ℕ). suc (getD machines x 0)) z ∙ sym q′)))
       (λ e.
-      let p = spot-is n places′ k b _ _ e in
-      range from to b
-      (λ l u t. let q = r .inside b l u in
-      or-right (inRow above k b) _ (and-mk _ _ (eq-eqb k j (omega (arith, p, q))) t))
-      (λ o t. let q = r .outside b o in
-      or-left _ _ (v .isAbove k b kl bl ∙ is-spot n places k b _ _ (p .0) (sym (q .0) ∙ p .1) (p .2 ∙ q .1))))
+      let w = spot-is n places′ k c (suc (getD machines k 0)) (getD jobs′ c 0) e in
+      or-right (inRow above k c) _ (and-mk _ _ (eq-eqb k j (omega (arith, p′, w))) t)))
+      (λ p q t.
+      ap (λ (s : Bool). inRow above k c or s) (and-no-right (eqb k j) (between b (b + 1) c) t) ∙ or-false (inRow above k c)
+      ∙ v .isAbove k c kl cl ∙ rw (← p, ← q) refl)
 
-  pub near-moved : Near below′ level above′ machines jobs′ places′ n
+  pub near-moved : Near below′ level above′ machines (set jobs b (suc (getD machines j 0))) (set places b (suc j)) n
   near-moved = record {
     longs = (out .long ∙ v .longs .0, v .longs .1, came .long ∙ v .longs .2);
     isBelow = below-after;
     isLevel = level-after;
     isAbove = above-after;
   }
-
--- ---- one job more in a run
-
-pub ranged-none : (places jobs : List ℕ) (i low j g first : ℕ) → Ranged places jobs places jobs i low j g first first
-ranged-none places jobs i low j g first = record { inside = λ b l u. absurd (omega arith); outside = λ b o. (refl, refl) }
-
-pub ranged-more : {places jobs places′ jobs′ : List ℕ} {i low j g first next : ℕ} → Ranged places jobs places′ jobs′ i low j g first next
-    → first ≤ next → next < length places′ → next < length jobs′ → getD places′ next 0 ≡ suc i → getD jobs′ next 0 ≡ low
-    → Ranged places jobs (set places′ next (suc j)) (set jobs′ next g) i low j g first (suc next)
-ranged-more {places} {jobs} {places′} {jobs′} {i} {low} {j} {g} {first} {next} r f l u p q = record {
-  inside = λ b m k. elim (ℕ-discrete b next) [
-    | yes e ↦
-        let o = r .outside next (inr (omega arith)) in (
-          ap (λ (x : ℕ). getD places x 0) e ∙ sym (o .0) ∙ p,
-          ap (λ (x : ℕ). getD jobs x 0) e ∙ sym (o .1) ∙ q,
-          ap (λ (x : ℕ). getD (set places′ next (suc j)) x 0) e ∙ getD-set-same places′ next (suc j) 0 l,
-          ap (λ (x : ℕ). getD (set jobs′ next g) x 0) e ∙ getD-set-same jobs′ next g 0 u,
-        )
-    | no e ↦
-        let o = r .inside b m (omega arith) in (
-          o .0,
-          o .1,
-          getD-set-other places′ next b (suc j) 0 e ∙ o .2,
-          getD-set-other jobs′ next b g 0 e ∙ o .3,
-        )
-  ];
-  outside = λ b o.
-      let far : b ≡ next → ⊥ = λ z. elim o [ inl x ↦ omega arith | inr x ↦ omega arith ] in
-      let w : (b < first) ⊎ (next ≤ b) = elim o [ inl x ↦ inl x | inr x ↦ inr (omega arith) ] in
-      let k = r .outside b w in
-      (getD-set-other places′ next b (suc j) 0 far ∙ k .0, getD-set-other jobs′ next b g 0 far ∙ k .1);
-}
 
 -- ---- the search
 

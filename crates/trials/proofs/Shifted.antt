@@ -1,14 +1,15 @@
 -- The loads kept beside an assignment, after one job goes from machine i to machine j.
 -- Assumes nothing.
 use Prim.Native.Nat.{ℕ, zero, suc, _+_, _-_, _≤_, _<_}
-use mathlib.Core.Path.{_≡_, refl, sym, ap, _∙_}
-use mathlib.Core.Bool.{Bool, true, false}
+use mathlib.Core.Path.{_≡_, refl, sym, ap, subst, _∙_}
+use mathlib.Core.Bool.{Bool}
 use mathlib.Core.Logic.{_≢_}
 use mathlib.Core.List.{List, [], _∷_}
 use native.Mathlib.Nat.{le-refl}
 use native.Mathlib.Omega.{arith}
 use native.Mathlib.Decide.{ℕ-discrete}
 use lib.ListN.{length, getD, set}
+use lib.Seq.{getD-set-same, getD-set-other, lt-length-set, set-set, set-comm}
 use lib.Dec.{eqb}
 use borrow.Author.Tests.{eq-eqb, ne-eqb}
 use Rattle.rules.specs.Fold.{pick, at, put}
@@ -16,7 +17,7 @@ use Rattle.rules.specs.Instance.{Instance, Assignment, n, minutesOf}
 use Rattle.rules.specs.Load.{load}
 use Rattle.theory.proofs.Fold.{at-put-same, at-put-other, length-put}
 use Rattle.theory.proofs.Makespan.{load-ge}
-use Rattle.theory.proofs.Load.{part, load-put}
+use Rattle.theory.proofs.Load.{load-put}
 
 -- w minutes fewer on i, and then w more on j
 abbrev pub shifted : List ℕ → ℕ → ℕ → ℕ → List ℕ
@@ -98,3 +99,39 @@ set-down (x ∷ l) zero v zero h = h
 set-down (x ∷ l) zero v (suc j) h = le-refl _
 set-down (x ∷ l) (suc i) v zero h = le-refl _
 set-down (x ∷ l) (suc i) v (suc j) h = set-down l i v j h
+
+-- ---- the load of the giver, at index i, kept beside the list as x
+
+module _ (l : List ℕ) (i x w : ℕ) (il : i < length l) (h : w ≤ x) where
+  kept : getD (set l i x) i 0 ≡ x
+  kept = getD-set-same l i x 0 il
+
+  -- what comes straight back changes nothing
+  kept-same : shifted (set l i x) (suc i) (suc i) w ≡ set (set l i (getD l i 0 + pick (eqb i i) 0 w)) i (x - pick (eqb i i) 0 w)
+  kept-same =
+      let k = set l i x in
+      let v = getD k i 0 - w in
+      let e : getD (set k i v) i 0 ≡ v = getD-set-same k i v 0 (lt-length-set l i x il) in
+      let f : getD (set k i v) i 0 + w ≡ x = omega (arith, e, kept) in
+      let z : x ≡ x - pick (eqb i i) 0 w = rw (eq-eqb i i refl) (omega arith) in
+      set-set k i v (getD (set k i v) i 0 + w) ∙ ap (set k i) f ∙ set-set l i x x
+      ∙ ap (set l i) z ∙ sym (set-set l i (getD l i 0 + pick (eqb i i) 0 w) (x - pick (eqb i i) 0 w))
+
+  kept-other : (j : ℕ) → i ≢ j
+      → shifted (set l i x) (suc i) (suc j) w ≡ set (set l j (getD l j 0 + pick (eqb i j) 0 w)) i (x - pick (eqb i j) 0 w)
+  kept-other j n =
+      let k = set l i x in
+      let v = getD k i 0 - w in
+      let e : set k i v ≡ set l i (x - w) = set-set l i x v ∙ ap (λ (r : ℕ). set l i (r - w)) kept in
+      let g : getD (set l i (x - w)) j 0 ≡ getD l j 0 = getD-set-other l i j (x - w) 0 (λ z. n (sym z)) in
+      ap (λ (r : List ℕ). set r j (getD r j 0 + w)) e
+      ∙ ap (λ (r : ℕ). set (set l i (x - w)) j (r + w)) g
+      ∙ set-comm l i j (x - w) (getD l j 0 + w) n
+      ∙ ap (λ (t : Bool). set (set l j (getD l j 0 + pick t 0 w)) i (x - pick t 0 w)) (sym (ne-eqb i j n))
+
+  pub shifted-kept : (j : ℕ) → shifted (set l i x) (suc i) (suc j) w ≡ set (set l j (getD l j 0 + pick (eqb i j) 0 w)) i (x - pick (eqb i j) 0 w)
+  shifted-kept j = elim (ℕ-discrete i j) [
+    | yes e ↦
+        subst (λ (r : ℕ). shifted (set l i x) (suc i) (suc r) w ≡ set (set l r (getD l r 0 + pick (eqb i r) 0 w)) i (x - pick (eqb i r) 0 w)) e kept-same
+    | no n ↦ kept-other j n
+  ]

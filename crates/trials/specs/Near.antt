@@ -1,9 +1,8 @@
 -- For each machine, which of the jobs on it stand just below it, level with it, and just above it.
 -- Assumes nothing.
-use Prim.Native.Nat.{ℕ, suc, _-_, _≤_, _<_}
+use Prim.Native.Nat.{ℕ, suc, _-_, _<_}
 use mathlib.Core.Path.{_≡_}
 use mathlib.Core.Bool.{Bool, true, false}
-use mathlib.Core.Logic.{_⊎_}
 use mathlib.Core.List.{List}
 use lib.ListN.{length, getD}
 use lib.Dec.{ltb, eqb}
@@ -20,19 +19,6 @@ pub record Near (below level above machines jobs places : List ℕ) (n : ℕ) : 
   pub isBelow : (i b : ℕ) → i < 24 → b < 256 → inRow below i b ≡ spot n places i b (getD machines i 0) (suc (getD jobs b 0))
   pub isLevel : (i b : ℕ) → i < 24 → b < 256 → inRow level i b ≡ spot n places i b (getD machines i 0) (getD jobs b 0)
   pub isAbove : (i b : ℕ) → i < 24 → b < 256 → inRow above i b ≡ spot n places i b (suc (getD machines i 0)) (getD jobs b 0)
-
--- the jobs first, .., next - 1, all on the machine at index i and of height low, went to the machine at index j and got height g
-pub record Ranged (places jobs places′ jobs′ : List ℕ) (i low j g first next : ℕ) : Type 0 where
-  pub inside : (b : ℕ) → first ≤ b → b < next
-      → (getD places b 0 ≡ suc i) × (getD jobs b 0 ≡ low) × (getD places′ b 0 ≡ suc j) × (getD jobs′ b 0 ≡ g)
-  pub outside : (b : ℕ) → (b < first) ⊎ (next ≤ b) → (getD places′ b 0 ≡ getD places b 0) × (getD jobs′ b 0 ≡ getD jobs b 0)
-
--- the machine at index i handed the jobs b, .., next - 1, which stood just below it, to the machine at index j, above which they stand
-pub record Moves (machines places jobs places′ jobs′ : List ℕ) (i j b next : ℕ) : Type 0 where
-  pub low : ℕ
-  pub ranged : Ranged places jobs places′ jobs′ i low j (suc (getD machines j 0)) b next
-  pub giver : getD machines i 0 ≡ suc low
-  pub taker : j < 24
 
 -- the rows of the machine at index i after its lift: by one where some job is level with it, by two otherwise
 pub record Rises (below level above below′ level′ above′ : List ℕ) (i : ℕ) (some : Bool) : Type 0 where

@@ -6,21 +6,19 @@ use mathlib.Core.Bool.{Bool, true, false}
 use mathlib.Core.Logic.{_⊎_}
 use mathlib.Core.List.{List}
 use lib.ListN.{length, take, getD, set}
-use lib.Bits.{bitAnd}
-use lib.Dec.{eqb}
-use Rattle.rules.specs.Fold.{_and_, pick, at, firstTo}
+use Rattle.rules.specs.Fold.{at, firstTo}
 use Rattle.rules.specs.Instance.{Instance, n}
 use Rattle.rules.specs.Load.{load, longest}
 use Rattle.rules.specs.Trial as T
 use Rattle.theory.proofs.Underloaded.{Runnable}
 use Rattle.theory.proofs.Ending.{Counted}
-use Rattle.theory.proofs.View.{None}
 use Rattle.theory.proofs.Steps.{made}
 use Rattle.theory.proofs.Iterate.{Leads}
 use Rattle.theory.proofs.Turn.{Placed, able, nextOff}
 use Rattle.trials.specs.declared.State.{State}
-use Rattle.arrays.specs.Sets.{has, Levels, LowestIn}
+use Rattle.arrays.specs.Sets.{Levels}
 use Rattle.trials.specs.Reads.{Reads}
+use Rattle.trials.specs.Near.{Near}
 
 -- the rules' state that the arrays hold, for m machines and n jobs
 abbrev pub stateOf : ℕ → ℕ → State → T.State
@@ -72,23 +70,17 @@ abbrev pub Wide : List ℕ → List ℕ → List ℕ → List ℕ → List ℕ �
 Wide machines jobs places loads levels =
     (length machines ≡ 24) × (length jobs ≡ 200) × (length places ≡ 200) × (length loads ≡ 24) × (length levels ≡ 64)
 
--- After the machine at index i, of load x then, gave a job to the machine at index j, whose load went from old to y: i is still
--- overloaded, j is no lower one that may act now, and some machine is still underloaded.
-pub record GoesOn (m a limit i j old x y : ℕ) (machines : List ℕ) : Type 0 where
+-- After the machine at index i, of load x then, gave a job to the machine at index j, of height h, whose load went from old to y: i is still
+-- overloaded, j is no lower one that may act now, as none above the height top may, and some machine is still underloaded.
+pub record GoesOn (a limit top i j old x y h : ℕ) : Type 0 where
   pub over : limit < x
-  pub lower : j < i → getD machines j 0 ≤ 2 * m → y ≤ limit
+  pub lower : j < i → h ≤ top → y ≤ limit
   pub some : (a < old) ⊎ (y ≤ a)
 
--- no job up to number c on machine i + 1 stands just below it
-abbrev pub Passed : ℕ → ℕ → State → Type 0
-Passed i c t = None c (λ b. eqb (at (t .places) b) (suc i) and eqb (at (t .machines) (suc i)) (suc (at (t .jobs) b)))
-
--- from t to t′, where the machine at index i handed jobs over, none is left just below it up to number from, and it is still its turn where
--- stays says so
-pub record Onward (I : Instance) (a i from : ℕ) (t t′ : State) (stays : Bool) : Type 0 where
+-- from t to t′, where the machine at index i handed jobs over, and it is still its turn where stays says so
+pub record Onward (I : Instance) (a i : ℕ) (t t′ : State) (stays : Bool) : Type 0 where
   pub leads : Leads I a (stateOf (I .m) (n I) t) (stateOf (I .m) (n I) t′)
   pub tracks : Tracks I a t′
-  pub passed : Passed i from t′
   pub turn : stays ≡ true → Turn I a (suc i) t′
 
 -- the job at index b is next to be handed over by the machine at index i, whose turn it is
@@ -98,32 +90,14 @@ pub record Giving (I : Instance) (a limit m c : ℕ) (lengths sets : List ℕ) (
   pub next : nextOff I (stateOf (I .m) (n I) t) (suc i) ≡ suc b
   pub wide : length (t .loads) ≡ 24
 
--- whatever instance the arrays say, t′ is t with that job handed over, and others up to number from
-abbrev pub Gives : ℕ → ℕ → ℕ → ℕ → List ℕ → List ℕ → ℕ → ℕ → ℕ → State → State → Bool → Type 0
-Gives a limit m c lengths sets i b from t t′ stays =
-    (I : Instance) → Giving I a limit m c lengths sets i b t → Onward I a i from t t′ stays
-
--- x has the machines that stand at the levels from `from` on below height, and those at height up to machine
-pub record Ahead (levels : List ℕ) (from machine height x : ℕ) : Type 0 where
-  pub lower : (h q : ℕ) → from ≤ h → h < height → has (getD levels h 0) q ≡ true → has x q ≡ true
-  pub level : (q : ℕ) → 0 < q → q ≤ machine → has (getD levels height 0) q ≡ true → has x q ≡ true
-
--- And it is known where that job goes, of height low: to the machine at index j, where it gets height g. So does each job of that
--- height that may run, of the machines in watch, on those in want alone. Up to the load most of j it stays the giver's turn, as far as j goes.
-pub record Aiming (I : Instance) (a limit m c : ℕ) (lengths sets : List ℕ) (i low j g watch want most b : ℕ) (t : State) : Type 0 where
-  pub giving : Giving I a limit m c lengths sets i b t
-  pub stands : getD (t .jobs) b 0 ≡ low
-  pub height : ℕ
-  pub lowest : LowestIn (getD sets b 0) (t .levels) (low - 1) (suc j) height
-  pub alike : (x : ℕ) → bitAnd x watch ≡ want → LowestIn x (t .levels) (low - 1) (suc j) height
-  pub lands : g ≡ height + 1
-  pub rests : getD (t .loads) j 0 ≤ a → most ≤ a
-  pub yields : j < i → getD (t .machines) j 0 ≤ 2 * m → most ≤ limit
-
--- Once the jobs at the indices from first to before next went so: x and y are the loads of giver and taker.
-abbrev pub after : List ℕ → List ℕ → List ℕ → List ℕ → List ℕ → ℕ → ℕ → ℕ → ℕ → ℕ → ℕ → ℕ → ℕ → ℕ → ℕ → State
-after machines jobs places loads levels lifts pushes i j low g first next x y =
-    arrays machines jobs places (set (set loads i x) j y) levels (lifts + pick (eqb low g) 0 1 * (next - first)) (pushes + 2 * (next - first))
+-- The machine at index i stands one above height low. The sets two, one and same are the machines that stand two below it, one below it and
+-- level with it, and none above the height top may act.
+pub record Facing (machines levels : List ℕ) (m i low two one same top : ℕ) : Type 0 where
+  pub stands : getD machines i 0 ≡ suc low
+  pub lower : two ≡ at levels low
+  pub level : one ≡ getD levels low 0
+  pub upper : same ≡ getD levels (suc low) 0
+  pub highest : top ≡ 2 * m
 
 -- a machine's turn begins
 pub record Passing (I : Instance) (a limit m c : ℕ) (lengths sets : List ℕ) (i : ℕ) (t : State) : Type 0 where
@@ -142,6 +116,14 @@ abbrev pub Goes : ℕ → ℕ → ℕ → ℕ → List ℕ → List ℕ → ℕ 
 Goes a limit m c lengths sets i t t′ stopped =
     (I : Instance) → Passing I a limit m c lengths sets i t → Went I a i t t′ stopped
 
+-- a machine's turn, where it hands over word q of the jobs just below it: x is left of that word, the words before it are 0, and the other
+-- words are those of below
+pub record Wording (I : Instance) (a limit m c : ℕ) (lengths sets : List ℕ) (i low two one same top q x : ℕ) (below level above : List ℕ) (t : State) : Type 0 where
+  pub passing : Passing I a limit m c lengths sets i t
+  pub facing : Facing (t .machines) (t .levels) m i low two one same top
+  pub near : Near (set below (4 * i + q) x) level above (t .machines) (t .jobs) (t .places) c
+  pub before : (k : ℕ) → k < q → getD below (4 * i + k) 0 ≡ 0
+
 -- it is the turn of the machine at index i, and no job is left just below it
 pub record Idle (I : Instance) (a limit m c : ℕ) (lengths sets : List ℕ) (i : ℕ) (t : State) : Type 0 where
   pub setup : Setup I a limit m c lengths sets
@@ -153,12 +135,6 @@ pub record Rose (I : Instance) (a m i : ℕ) (t t′ : State) : Type 0 where
   pub leads : Leads I a (stateOf (I .m) (n I) t) (stateOf (I .m) (n I) t′)
   pub tracks : Tracks I a t′
   pub turn : getD (t′ .machines) i 0 ≤ 2 * m → Turn I a (suc i) t′
-
--- so far in a turn: from t to t′, with the jobs up to number from passed
-pub record Along (I : Instance) (a i from : ℕ) (t t′ : State) : Type 0 where
-  pub leads : Leads I a (stateOf (I .m) (n I) t) (stateOf (I .m) (n I) t′)
-  pub turn : Turn I a (suc i) t′
-  pub passed : Passed i from t′
 
 -- the state, and that nothing acts
 abbrev pub restOf : State → State

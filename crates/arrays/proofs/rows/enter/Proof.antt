@@ -1,15 +1,14 @@
 -- One bit of one word.
 -- Assumes nothing.
-use Prim.Native.Nat.{suc, _+_, _-_, _*_, _/_, _%_}
-use mathlib.Core.Path.{ap, _∙_}
+use Prim.Native.Nat.{suc, _+_, _*_, _/_, _%_}
+use mathlib.Core.Path.{_≡_, ap, _∙_}
 use native.Mathlib.Omega.{arith}
 use lib.ListN.{getD}
 use borrow.Author.Needs.{needs}
 use Rattle.arrays.specs.Sets.{has}
 use Rattle.rules.specs.Fold.{_or_}
-use Rattle.theory.proofs.Logic.{or-false, or-assoc}
 use Rattle.arrays.proofs.Words.{has-or}
-use Rattle.arrays.proofs.JobRows.{changed-none, changed-more, changed-in}
+use Rattle.arrays.proofs.JobRows.{word-in}
 use Rattle.arrays.proofs.rows.enter.Statement.{statement}
 use Rattle.arrays.proofs.rows.enter.Tie as tie
 
@@ -25,11 +24,8 @@ mul-rows c = omega arith
 slice-read-rows : tie.Need-slice-read-rows
 slice-read-rows c = omega arith
 
-add-span : tie.Need-add-span
-add-span c = omega arith
-
-span-requires : tie.Need-span-requires
-span-requires c κs = (omega arith, omega arith, omega arith)
+one-bit-requires : tie.Need-one-bit-requires
+one-bit-requires c κs = omega arith
 
 mul-rows-2 : tie.Need-mul-rows-2
 mul-rows-2 c = omega arith
@@ -46,11 +42,10 @@ returns c =
     let i = st .args .i in
     let b = st .args .b in
     let x = getD (st .args .rows .now) (4 * i + b / 64) 0 in
-    changed-in _ _ _ _ _
-    (changed-more _or_ or-false i (st .pre .0) (λ a s t. or-assoc a s t) _ _ b b (b + 1) (b / 64) (b % 64) (b % 64 + 1) _ (st .pre .1)
-    (omega arith) (omega arith) (omega arith) (omega arith) (omega arith) (omega arith)
-    (λ k l. has-or x (c .span .result) (suc k) ∙ ap (_or_ (has x (suc k))) (c .span .ensures k l))
-    (changed-none _or_ or-false i (st .pre .0) _ b))
+    let e : 64 * (b / 64) + b % 64 ≡ b = omega arith in
+    rw e at
+    (word-in (st .args .rows .now) i (b / 64) (b % 64) (st .pre .1) (st .pre .0) (omega arith) (omega arith) _
+    (λ k l. has-or x (c .one-bit .result) (suc k) ∙ ap (_or_ (has x (suc k))) (c .one-bit .ensures k l)))
 
 pub enter-spec : {M : Type 1} → statement M
 enter-spec =
@@ -60,8 +55,7 @@ enter-spec =
     add-w
     mul-rows
     slice-read-rows
-    add-span
-    span-requires
+    one-bit-requires
     mul-rows-2
     slice-write-rows
     same-length

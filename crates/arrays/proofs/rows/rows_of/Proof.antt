@@ -1,22 +1,22 @@
 -- Each job is entered in the row of its machine.
 -- Assumes nothing.
-use Prim.Native.Nat.{_-_, _≤_}
+use Prim.Native.Nat.{ℕ, _-_, _≤_}
 use mathlib.Core.Path.{_≡_, refl, sym, _∙_}
 use native.Mathlib.Omega.{arith}
-use lib.ListN.{length}
+use lib.ListN.{length, getD}
 use borrow.Author.Needs.{needs}
-use Rattle.arrays.proofs.Entering.{EnteredTo, entered-none, entered-more}
+use Rattle.arrays.proofs.Entering.{EnteredBy, entered-none, entered-more}
 use Rattle.arrays.proofs.rows.rows_of.Statement.{statement}
 use Rattle.arrays.proofs.rows.rows_of.Tie as tie
 
 abbrev Inv-loop : tie.InvT-loop
-Inv-loop places n rows₀ b₀ rows b = (b ≤ n) × (length rows ≡ 96) × EnteredTo places b rows
+Inv-loop places n rows₀ b₀ rows b = (b ≤ n) × (length rows ≡ 96) × EnteredBy (λ k. getD places k 0) b rows
 
 abbrev μ-loop : tie.MeasureT-loop
 μ-loop places n rows₀ b₀ rows b = n - b
 
 loop-holds : tie.Need-loop-holds Inv-loop μ-loop
-loop-holds c = (omega arith, search needs, entered-none (c .before .args .places .now))
+loop-holds c = (omega arith, search needs, entered-none (λ k. getD (c .before .args .places .now) k 0))
 
 shared-slice-read-i : tie.Need-shared-slice-read-i Inv-loop μ-loop
 shared-slice-read-i c = omega (arith, c .before .before .before .before .pre .1, c .before .loop-test .taken)
@@ -43,7 +43,7 @@ loop-again : tie.Need-loop-again Inv-loop μ-loop
 loop-again c = (
   omega (arith, c .before .before .before .before .loop-test .taken),
   c .before .enter .ensures .long ∙ c .before .before .before .before .before .loop .inv .1,
-  entered-more (c .before .before .before .before .before .before .before .args .places .now) (c .before .before .before .before .before .loop .inv .2) refl (c .before .before .before .before .before .before .before .pre .2 _ (c .before .before .before .before .loop-test .taken) .0) (c .before .enter .ensures),
+  entered-more (λ k. getD (c .before .before .before .before .before .before .before .args .places .now) k 0) (c .before .before .before .before .before .loop .inv .2) refl (c .before .before .before .before .before .before .before .pre .2 _ (c .before .before .before .before .loop-test .taken) .0) (c .before .enter .ensures),
 )
 
 returns : tie.Need-returns Inv-loop μ-loop
