@@ -1,4 +1,4 @@
--- Who would finish earlier elsewhere, by a cap on the other machine's load; and one more turn of the searches for the least and the greatest.
+-- Who would finish earlier elsewhere, by a cap on the other machine's load; and one more turn of the search for the greatest.
 -- Assumes nothing.
 use Prim.Native.Nat.{ℕ, zero, suc, _+_, _-_, _≤_, _<_}
 use mathlib.Core.Path.{_≡_, refl, sym, ap, _∙_}
@@ -6,9 +6,10 @@ use mathlib.Core.Bool.{Bool, true, false, not}
 use mathlib.Core.List.{List}
 use native.Mathlib.Nat.{le-refl, le-step}
 use native.Mathlib.Omega.{arith}
+use native.Mathlib.Decide.{decLe}
 use lib.Dec.{ltb}
 use borrow.Author.Tests.{ltb-true, ltb-false, lt-ltb, le-ltb, ne-eqb}
-use Rattle.rules.specs.Fold.{_and_, at, anyTo, lesser, greater, greatestTo}
+use Rattle.rules.specs.Fold.{_and_, at, anyTo, greater, greatestTo}
 use Rattle.theory.proofs.Logic.{byTest}
 use Rattle.theory.proofs.View.{Greatest, greatest}
 use Rattle.arrays.specs.Sets.{has}
@@ -53,28 +54,9 @@ module _ (loads : List ℕ) (mask place w : ℕ) where
 -- ---- one more turn
 
 module _ (f : ℕ → ℕ) (a k : ℕ) where
-  pub lesser-off : lesser f a false k ≡ a
-  unfolding lesser
-  lesser-off = refl
-
   pub greater-off : greater f a false k ≡ a
   unfolding greater
   greater-off = refl
-
-pub lesser-new : (f : ℕ → ℕ) (a k : ℕ) → a ≡ 0 → lesser f a true k ≡ k
-unfolding lesser
-lesser-new f zero k e = refl
-lesser-new f (suc a) k e = absurd (omega arith)
-
-pub lesser-less : (f : ℕ → ℕ) (a k : ℕ) → f k < f a → lesser f a true k ≡ k
-unfolding lesser
-lesser-less f zero k h = refl
-lesser-less f (suc a) k h = rw (lt-ltb (f k) (f (suc a)) h)
-
-pub lesser-stay : (f : ℕ → ℕ) (a k : ℕ) → (a ≡ 0 → ⊥) → f a ≤ f k → lesser f a true k ≡ a
-unfolding lesser
-lesser-stay f zero k n h = absurd (n refl)
-lesser-stay f (suc a) k n h = rw (le-ltb (f k) (f (suc a)) h)
 
 pub greater-new : (f : ℕ → ℕ) (a k : ℕ) → (0 < a → f a < f k) → greater f a true k ≡ k
 unfolding greater
@@ -107,3 +89,12 @@ greatest-agree zero p q f g h e = refl
 greatest-agree (suc k) p q f g h e =
     rw (h (suc k) (omega arith) (le-refl (suc k)), ← greatest-agree k p q f g (λ i l u. h i l (omega arith)) (λ i l u. e i l (omega arith)))
     (greater-agree f g (greatestTo k p f) (q (suc k)) (suc k) (λ i0. e _ i0 (le-step (greatest-le k p f))) (e (suc k) (omega arith) (le-refl (suc k))))
+
+-- numbers that do not pass change nothing
+pub greatest-still : (p : ℕ → Bool) (f : ℕ → ℕ) (k t : ℕ) → k ≤ t → ((i : ℕ) → k < i → i ≤ t → p i ≡ false) → greatestTo t p f ≡ greatestTo k p f
+unfolding greatestTo
+greatest-still p f k zero l h = let e : zero ≡ k = omega arith in ap (λ (x : ℕ). greatestTo x p f) e
+greatest-still p f k (suc t) l h = elim (decLe k t) [
+  | yes z ↦ rw (h (suc t) (omega arith) (le-refl (suc t))) (greater-off f (greatestTo t p f) (suc t) ∙ greatest-still p f k t z (λ i a b. h i a (le-step b)))
+  | no z ↦ let e : suc t ≡ k = omega arith in ap (λ (x : ℕ). greatestTo x p f) e
+]

@@ -5,18 +5,32 @@ use mathlib.Core.Path.{_≡_, sym, ap, _∙_}
 use mathlib.Core.List.{List}
 use native.Mathlib.Omega.{arith}
 use lib.ListN.{length, take, getD}
-use Rattle.rules.specs.Fold.{at, anyTo, firstTo, leastTo, greatestTo}
-use Rattle.rules.specs.Instance.{Instance, minutesOf}
+use lib.Dec.{eqb}
+use Rattle.rules.specs.Fold.{pick, at, anyTo, firstTo, leastTo, greatestTo}
+use Rattle.rules.specs.Instance.{Instance, Assignment, n, minutesOf}
 use Rattle.rules.specs.Load.{load, elsewhere, improvesAt, improves}
 use Rattle.rules.specs.Settle.{mover, target}
+use Rattle.theory.proofs.Logic.{byTest}
+use Rattle.theory.proofs.Fold.{sumTo-bound}
 use Rattle.theory.proofs.Valid.{on-machine}
 use Rattle.theory.proofs.Turn.{first-ext}
 use Rattle.trials.specs.Reads.{Reads}
-use Rattle.planner.specs.Settling.{other, gainsAt, gains, Placing, Known}
+use Rattle.planner.specs.Settling.{other, gainsAt, gains, goal, longest, Placing, Known}
 use Rattle.trials.proofs.Take.{at-take, take-long}
 use Rattle.trials.proofs.Raising.{least-agree}
 use Rattle.trials.proofs.Going.{any-ext}
 use Rattle.planner.proofs.Gains.{greatest-agree}
+
+pub load-small : {I : Instance} {m c : ℕ} {lengths sets : List ℕ} → Reads I m c lengths sets → (x : Assignment) (i : ℕ) → load I x i ≤ 288000
+unfolding load
+load-small {I} r x i =
+    omega (
+      arith,
+      sumTo-bound (n I) (λ b. pick (eqb (at x b) i) (minutesOf I b) 0) 1440
+          (λ b l u. byTest (eqb (at x b) i) (λ t. rw t (r .short b)) (λ t. rw t (omega arith))),
+      r .jobs,
+      r .most,
+    )
 
 module _ {I : Instance} {m c : ℕ} {lengths sets places loads : List ℕ} (r : Reads I m c lengths sets) (p : Placing I m c places loads) where
   -- a job's place is a machine
@@ -46,14 +60,14 @@ module _ {I : Instance} {m c : ℕ} {lengths sets places loads : List ℕ} (r : 
   pub first-is : firstTo c (λ b. gains loads (at sets b) (at places b) (at lengths b) m) ≡ firstTo c (λ b. improves I (take c places) b)
   first-is = first-ext c _ _ gains-is
 
-  pub mover-is : greatestTo c (λ b. gains loads (at sets b) (at places b) (at lengths b) m) (λ b. at lengths b) ≡ mover I (take c places)
-  unfolding mover
+  pub mover-is : longest loads places lengths sets m c ≡ mover I (take c places)
+  unfolding mover longest
   mover-is =
       greatest-agree c _ _ _ _ gains-is (r .minutes)
       ∙ ap (λ (k : ℕ). greatestTo k (λ b. improves I (take c places) b) (λ b. minutesOf I b)) (sym (r .jobs))
 
-  pub target-is : (b : ℕ) → 0 < b → b ≤ c → leastTo m (λ i. other (at sets b) (at places b) i) (λ i. at loads i) ≡ target I (take c places) b
-  unfolding target
+  pub target-is : (b : ℕ) → 0 < b → b ≤ c → goal loads (at sets b) (at places b) m ≡ target I (take c places) b
+  unfolding target goal
   target-is b l u =
       least-agree m _ _ _ _ (λ i il iu. other-is b i l u il iu) (p .each)
       ∙ ap (λ (k : ℕ). leastTo k (λ i. elsewhere I (take c places) b i) (λ i. load I (take c places) i)) (sym (r .machines))
@@ -69,3 +83,15 @@ module _ {m c : ℕ} {lengths sets places loads : List ℕ} (k : Known m c lengt
   known-place b u =
       let z = place-in (k .said .reads) (k .placing) (suc b) (omega arith) u in
       (z .0, omega (arith, z .1, k .placing .long))
+
+  pub known-in : (b : ℕ) → b < c → (0 < getD places b 0) × (getD places b 0 ≤ m)
+  known-in b u = place-in (k .said .reads) (k .placing) (suc b) (omega arith) u
+
+  pub known-takes : (b : ℕ) → b < c → (0 < getD lengths b 0) × (getD lengths b 0 ≤ 1440)
+  known-takes b u =
+      let r = k .said .reads in
+      let e = r .minutes (suc b) (omega arith) u in
+      (omega (arith, e, r .valid .minutes (suc b) (omega arith) (omega (arith, r .jobs))), omega (arith, e, r .short (suc b)))
+
+  pub known-small : (i : ℕ) → i < m → getD loads i 0 ≤ 288000
+  known-small i u = omega (arith, k .placing .each (suc i) (omega arith) u, load-small (k .said .reads) (take c places) (suc i))

@@ -1,7 +1,7 @@
 -- One move over arrays: where the job goes, that the loads have room for it, and what places and loads are after it.
 -- Assumes nothing.
 use Prim.Native.Nat.{ℕ, zero, suc, _+_, _-_, _≤_, _<_}
-use mathlib.Core.Path.{_≡_, refl, ap}
+use mathlib.Core.Path.{_≡_, refl, ap, _∙_}
 use mathlib.Core.List.{List}
 use native.Mathlib.Omega.{arith}
 use lib.ListN.{length, take, drop, getD, set}
@@ -14,11 +14,11 @@ use Rattle.theory.proofs.Makespan.{load-ge}
 use Rattle.theory.proofs.Review.{Improves}
 use Rattle.theory.proofs.Settling.{mover-some, target-better, moved-permitted}
 use Rattle.trials.specs.Reads.{Reads}
-use Rattle.planner.specs.Settling.{Placing, Moved}
+use Rattle.planner.specs.Settling.{goal, Placing, Moved}
 use Rattle.trials.proofs.Take.{at-take, take-put}
 use Rattle.trials.proofs.Shifted.{shifted, length-shifted, shifted-loads}
 use Rattle.arrays.proofs.Entries.{at-index, put-index}
-use Rattle.planner.proofs.Placing.{place-in, places-long}
+use Rattle.planner.proofs.Placing.{place-in, places-long, target-is}
 
 -- the same by index
 pub shifted-index : (l : List ℕ) (i j w : ℕ) → 0 < i → 0 < j
@@ -114,7 +114,10 @@ pub record Ready (m c : ℕ) (lengths places loads : List ℕ) (b t : ℕ) : Typ
   pub room : getD loads (t - 1) 0 + getD lengths (b - 1) 0 < getD loads (getD places (b - 1) 0 - 1) 0
 
 module _ {I : Instance} {m c : ℕ} {lengths sets places loads : List ℕ} (r : Reads I m c lengths sets) (p : Placing I m c places loads)
-    (b : ℕ) (l : 0 < b) (e : mover I (take c places) ≡ b) (t : ℕ) (f : t ≡ target I (take c places) b) where
+    (b : ℕ) (l : 0 < b) (e : mover I (take c places) ≡ b) (t : ℕ) (goes : t ≡ goal loads (at sets b) (at places b) m) where
+  f : t ≡ target I (take c places) b
+  f = goes ∙ target-is r p b l (due-in r p b l e)
+
   pub ready : Ready m c lengths places loads b t
   ready =
       let u = due-in r p b l e in

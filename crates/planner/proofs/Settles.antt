@@ -7,16 +7,15 @@ use native.Mathlib.Nat.{mul-le-mul}
 use native.Mathlib.Numerals.{add-one}
 use native.Mathlib.Omega.{arith}
 use lib.ListN.{take, drop}
-use lib.Dec.{eqb}
-use Rattle.rules.specs.Fold.{pick, at, sumTo}
-use Rattle.rules.specs.Instance.{Instance, Assignment, n, minutesOf}
+use Rattle.rules.specs.Fold.{at, sumTo}
+use Rattle.rules.specs.Instance.{Instance, Assignment}
 use Rattle.rules.specs.Load.{load}
 use Rattle.rules.specs.Settle.{mover, moved, squares, Settled, settleBy, settle}
-use Rattle.theory.proofs.Logic.{byTest}
 use Rattle.theory.proofs.Fold.{sumTo-ext, sumTo-bound}
 use Rattle.theory.proofs.Settling.{move-lowers, run-still}
 use Rattle.trials.specs.Reads.{Reads}
 use Rattle.planner.specs.Settling.{Placing, Moved, SettledTo}
+use Rattle.planner.proofs.Placing.{load-small}
 use Rattle.planner.proofs.Relocate.{due-improves}
 
 -- ---- the sum of squared loads
@@ -28,23 +27,12 @@ module _ {I : Instance} {m c : ℕ} {lengths sets : List ℕ} (r : Reads I m c l
       sumTo-ext m _ _ (λ i l u. rw (p .each i l u))
       ∙ ap (λ (k : ℕ). sumTo k (λ i. load I (take c places) i * load I (take c places) i)) (sym (r .machines))
 
-  load-small : (x : Assignment) (i : ℕ) → load I x i ≤ 288000
-  unfolding load
-  load-small x i =
-      omega (
-        arith,
-        sumTo-bound (n I) (λ b. pick (eqb (at x b) i) (minutesOf I b) 0) 1440
-            (λ b l u. byTest (eqb (at x b) i) (λ t. rw t (r .short b)) (λ t. rw t (omega arith))),
-        r .jobs,
-        r .most,
-      )
-
   pub squares-small : (x : Assignment) → squares I x ≤ 24 * (288000 * 288000)
   unfolding squares
   squares-small x =
       omega (
         arith,
-        sumTo-bound (I .m) (λ i. load I x i * load I x i) (288000 * 288000) (λ i l u. mul-le-mul (load-small x i) (load-small x i)),
+        sumTo-bound (I .m) (λ i. load I x i * load I x i) (288000 * 288000) (λ i l u. mul-le-mul (load-small r x i) (load-small r x i)),
         r .machines,
         r .few,
       )

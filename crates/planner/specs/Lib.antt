@@ -1,4 +1,5 @@
 pub mod Settling
+pub mod Suspects
 pub mod Calls
 pub mod Laid
 pub mod Search

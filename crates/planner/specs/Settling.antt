@@ -1,13 +1,12 @@
 -- What settling and review say over arrays: who would finish earlier elsewhere, and placements with their loads beside them.
 -- Assumes nothing.
-use Prim.Native.Nat.{ℕ, suc, _+_, _≤_, _<_}
+use Prim.Native.Nat.{ℕ, suc, _+_, _*_, _≤_, _<_}
 use mathlib.Core.Path.{_≡_}
-use mathlib.Core.Bool.{Bool, true, not}
-use mathlib.Core.Logic.{_≢_, _⊎_}
+use mathlib.Core.Bool.{Bool, true, false, not}
 use mathlib.Core.List.{List}
 use lib.ListN.{length, take, drop, getD}
 use lib.Dec.{ltb, eqb}
-use Rattle.rules.specs.Fold.{_and_, at, anyTo, greatestTo}
+use Rattle.rules.specs.Fold.{_and_, at, anyTo, leastTo, greatestTo}
 use Rattle.rules.specs.Instance.{Instance}
 use Rattle.rules.specs.Load.{load, review}
 use Rattle.rules.specs.Settle.{mover, moved, settle}
@@ -27,39 +26,20 @@ gainsAt loads mask place w i = other mask place i and ltb (at loads i + w) (at l
 unfoldable pub gains : List ℕ → ℕ → ℕ → ℕ → ℕ → Bool
 gains loads mask place w m = anyTo m (λ i. gainsAt loads mask place w i)
 
--- no machine of the set has less load than r
-pub record Bound (loads : List ℕ) (mask m r : ℕ) : Type 0 where
-  pub each : (i : ℕ) → 0 < i → i ≤ m → has mask i ≡ true → r ≤ at loads i
+-- r is the lightest machine of the set, the lowest on a tie, as 32 times its load and its index; or none is in the set, and r is the most that a
+-- word holds
+pub record Lightest (loads : List ℕ) (mask m r : ℕ) : Type 0 where
+  pub bound : (i : ℕ) → i < m → has mask (suc i) ≡ true → r ≤ getD loads i 0 * 32 + i
+  pub held : r < 4294967295 → (i : ℕ) × (i < m) × (has mask (suc i) ≡ true) × (r ≡ getD loads i 0 * 32 + i)
 
--- and one has load r, or none is in the set and r is the most that a word holds
-pub record LeastIn (loads : List ℕ) (mask m r : ℕ) : Type 0 where
-  pub bound : Bound loads mask m r
-  pub held : (cap : ℕ) → r < cap → cap ≤ 4294967295 → anyTo m (λ i. ltb (at loads i) cap and has mask i) ≡ true
+-- where a job goes: of its other machines the one of least load, the lowest on a tie
+unfoldable pub goal : List ℕ → ℕ → ℕ → ℕ → ℕ
+goal loads mask place m = leastTo m (λ i. other mask place i) (λ i. at loads i)
 
--- each of the c jobs has such a bound beside its set
-pub record Bounds (m c : ℕ) (sets loads lows : List ℕ) : Type 0 where
-  pub long : c ≤ length lows
-  pub each : (b : ℕ) → b < c → Bound loads (getD sets b 0) m (getD lows b 0)
-
--- the bound at index b is renewed
-pub record Renewed (loads : List ℕ) (mask m : ℕ) (old new : List ℕ) (b : ℕ) : Type 0 where
-  pub long : length new ≡ length old
-  pub here : Bound loads mask m (getD new b 0)
-  pub same : (k : ℕ) → k ≢ b → getD new k 0 ≡ getD old k 0
-
--- no bound has grown but up to `floor`, and of the first c jobs those that may run on the machine at index i have `load` at most, or `floor`
-pub record Cut (sets : List ℕ) (c i load floor : ℕ) (old new : List ℕ) : Type 0 where
-  pub long : length new ≡ length old
-  pub under : (b x : ℕ) → floor ≤ x → getD old b 0 ≤ x → getD new b 0 ≤ x
-  pub within : (b x : ℕ) → b < c → has (getD sets b 0) (suc i) ≡ true → floor ≤ x → load ≤ x → getD new b 0 ≤ x
-
--- a job of w minutes on a machine of load `top` has fewer than `need`, or does not finish earlier on a machine of load `low`
-pub record Stays (low top w need : ℕ) : Type 0 where
-  pub either : (w < need) ⊎ (top ≤ low + w)
-
--- each of the jobs from the index `from` on, up to `to`, is such
-pub record AllStay (loads places lengths lows : List ℕ) (need from to : ℕ) : Type 0 where
-  pub each : (b : ℕ) → from ≤ b → b < to → Stays (getD lows b 0) (at loads (getD places b 0)) (getD lengths b 0) need
+-- r is where it goes if it would finish earlier elsewhere, and 0 if not
+pub record Better (loads : List ℕ) (mask place w m r : ℕ) : Type 0 where
+  pub stays : r ≡ 0 → gains loads mask place w m ≡ false
+  pub goes : 0 < r → (gains loads mask place w m ≡ true) × (r ≡ goal loads mask place m)
 
 -- of the jobs 1 to c, the longest that would finish earlier elsewhere, the lowest number on a tie
 unfoldable pub longest : List ℕ → List ℕ → List ℕ → List ℕ → ℕ → ℕ → ℕ
@@ -83,10 +63,11 @@ pub record Known (m c : ℕ) (lengths sets places loads : List ℕ) : Type 0 whe
   pub said : Said m c lengths sets
   pub placing : Placing (said .I) m c places loads
 
--- job b is the one that moves next
-pub record Due (m c : ℕ) (lengths sets places loads : List ℕ) (b : ℕ) : Type 0 where
+-- job b is the one that moves next, and goes to machine t
+pub record Due (m c : ℕ) (lengths sets places loads : List ℕ) (b t : ℕ) : Type 0 where
   pub known : Known m c lengths sets places loads
   pub next : mover (known .said .I) (take c places) ≡ b
+  pub goes : t ≡ goal loads (at sets b) (at places b) m
 
 -- job b has moved
 pub record Moved (I : Instance) (m c : ℕ) (old new loads : List ℕ) (b : ℕ) : Type 0 where
