@@ -2,7 +2,7 @@ pub mod Bits
 pub mod Entering
 pub mod Entries
 pub mod Filling
-pub mod Floor
+pub mod Less
 pub mod JobRows
 pub mod Levels
 pub mod Loads

@@ -1,3 +1,3 @@
-pub mod Floor
+pub mod Less
 pub mod Sets
 pub mod Rows

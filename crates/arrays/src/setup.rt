@@ -1,10 +1,10 @@
 // What a trial starts from, read off the sheet's arrays once.
 ghost use mathlib.Core.Path.{_≡_};
-ghost use Prim.Native.Nat.{ℕ, _+_, _-_, _*_, _≤_, _<_, _^_};
-ghost use lib.ListN.{length, getD};
-ghost use lib.Dec.{ltb, leb, eqb};
-ghost use Rattle.rules.specs.Fold.{_and_, at, firstTo};
-ghost use Rattle.arrays.specs.Sets.{SetOf, SetsOf};
+ghost use Prim.Native.Nat.{_+_, _-_, _*_, _≤_, _<_};
+ghost use lib.ListN.{length};
+ghost use lib.Dec.{ltb};
+ghost use Rattle.rules.specs.Fold.{at, firstTo};
+ghost use Rattle.arrays.specs.Sets.{SetsOf};
 use crate::sets::mask_at;
 
 // The lowest machine of more load than limit, 0 for none.

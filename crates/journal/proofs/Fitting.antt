@@ -25,15 +25,15 @@ use Rattle.theory.proofs.Valid.{on-machine}
 use Rattle.theory.proofs.Closure.{IsGroup, group-range}
 use Rattle.theory.proofs.Ending.{trial-lifts, trial-pushes}
 use Rattle.theory.proofs.Trial.{Outcome, passes, fails, outcome, trial-permitted}
-use Rattle.theory.proofs.Balancing.{Floor, unfailed, showed}
-use Rattle.theory.proofs.Planning.{plan-floor}
+use Rattle.theory.proofs.Balancing.{Showing, unfailed, showed}
+use Rattle.theory.proofs.Planning.{plan-showing}
 use Rattle.theory.proofs.Field.{columns-length}
 use Rattle.sheet.specs.declared.Sheet.{Sheet}
 use Rattle.sheet.specs.Represent.{Sound, bookOf}
 use Rattle.sheet.proofs.Marking.{length-listTo}
 use Rattle.sheet.proofs.Shown.{view-instruments, view-batches, view-valid, view-permitted, view-short, view-lists}
 use Rattle.listing.proofs.Fields.{fields-length, line-length}
-use Rattle.listing.proofs.Figures.{plan-fits, load-few, finish-few, lifts-few, pushes-few, group-few}
+use Rattle.listing.proofs.Figures.{plan-fits, load-few, makespan-few, lifts-few, pushes-few, group-few}
 use Rattle.journal.specs.Answering.{isPlan, lineOf, lineLength, Small, Fitting}
 use Rattle.journal.proofs.Small.{small-none, small-more, small-one, small-to, small-mem, small-by}
 
@@ -72,9 +72,9 @@ first-le (found j l e h) = omega arith
 group-small : {I : Instance} {g : List ℕ} → I .m ≤ 24 → IsGroup I g → Small g
 group-small {I} {g} h e = small-mem g (λ i q. omega (arith, group-range e i q .1))
 
-floor-small : {I : Instance} {l : ℕ} {g : List ℕ} → I .m ≤ 24 → Floor I l g → Small g
-floor-small h unfailed = small-none
-floor-small h (showed l g f) = group-small h (f .group)
+showing-small : {I : Instance} {l : ℕ} {g : List ℕ} → I .m ≤ 24 → Showing I l g → Small g
+showing-small h unfailed = small-none
+showing-small h (showed l g f) = group-small h (f .group)
 
 module _ (s : Sheet) (v : Sound s) where
   machines : instance (bookOf s) .m ≤ 24
@@ -86,7 +86,7 @@ module _ (s : Sheet) (v : Sound s) where
       let i = instance (bookOf s) in
       let y = places (bookOf s) in
       let few = load-few i y (view-valid s v) (view-permitted s v) machines (view-batches s v) (view-short s v) (view-lists s v) y in
-      let most = finish-few i y (view-valid s v) (view-permitted s v) machines (view-batches s v) (view-short s v) (view-lists s v) in
+      let most = makespan-few i y (view-valid s v) (view-permitted s v) machines (view-batches s v) (view-short s v) (view-lists s v) in
       let w = review i y in
       plain (0 ∷ w .makespan ∷ w .improving ∷ w .loads)
       (omega (arith, length-listTo (i .m) (λ j. load i y j), machines))
@@ -130,7 +130,7 @@ module _ (s : Sheet) (v : Sound s) where
 
   plan-small : Small (planBook (bookOf s) .group)
   unfolding plan
-  plan-small = floor-small machines (plan-floor (instance (bookOf s)) (places (bookOf s)) (view-valid s v) (view-permitted s v))
+  plan-small = showing-small machines (plan-showing (instance (bookOf s)) (places (bookOf s)) (view-valid s v) (view-permitted s v))
 
   planned-fits : Fitting true (answerNumbers (planned (planBook (bookOf s))))
   planned-fits =

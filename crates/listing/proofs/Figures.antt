@@ -21,8 +21,8 @@ use Rattle.theory.proofs.Makespan.{longest-le, makespan-le}
 use Rattle.theory.proofs.Closure.{IsGroup, those}
 use Rattle.theory.proofs.Those.{those-length}
 use Rattle.theory.proofs.Confined.{share-makespan}
-use Rattle.theory.proofs.Balancing.{Floor, unfailed, showed, balance-found}
-use Rattle.theory.proofs.Planning.{bound-le, plan-no-later, plan-moves, plan-lifts, plan-pushes, plan-floor}
+use Rattle.theory.proofs.Balancing.{Showing, unfailed, showed, balance-found}
+use Rattle.theory.proofs.Planning.{bound-le, plan-no-later, plan-moves, plan-lifts, plan-pushes, plan-showing}
 use Rattle.trials.proofs.Giving.{load-small}
 use Rattle.sheet.specs.declared.Sheet.{Sheet}
 use Rattle.sheet.specs.Represent.{Sound, bookOf}
@@ -40,14 +40,14 @@ those-few m p = omega (arith, sumTo-bound m (λ i. pick (p i) 1 0) 1 (λ i l u. 
 pub group-few : {I : Instance} {g : List ℕ} → IsGroup I g → length g ≤ I .m
 group-few {I} (those p) = omega (arith, those-length (I .m) p, those-few (I .m) p)
 
-floor-few : {I : Instance} {l : ℕ} {g : List ℕ} → Floor I l g → length g ≤ I .m
-floor-few unfailed = omega arith
-floor-few (showed f g h) = group-few (h .group)
+showing-few : {I : Instance} {l : ℕ} {g : List ℕ} → Showing I l g → length g ≤ I .m
+showing-few unfailed = omega arith
+showing-few (showed f g h) = group-few (h .group)
 
-floor-bound : {I : Instance} {l : ℕ} {g : List ℕ} (x : Assignment) → Permitted I x → longest I ≤ 288000 → makespan I x ≤ 288000
-    → Floor I l g → lowerBound I g ≤ 288000
-floor-bound {I} x w e f unfailed = bound-le I [] 288000 e (λ p. absurd (omega arith))
-floor-bound {I} x w e f (showed l g h) = bound-le I g 288000 e (λ p. le-trans (share-makespan I x g w (h .group) p) f)
+showing-bound : {I : Instance} {l : ℕ} {g : List ℕ} (x : Assignment) → Permitted I x → longest I ≤ 288000 → makespan I x ≤ 288000
+    → Showing I l g → lowerBound I g ≤ 288000
+showing-bound {I} x w e f unfailed = bound-le I [] 288000 e (λ p. absurd (omega arith))
+showing-bound {I} x w e f (showed l g h) = bound-le I g 288000 e (λ p. le-trans (share-makespan I x g w (h .group) p) f)
 
 -- ---- a sound sheet's plan
 
@@ -66,8 +66,8 @@ module _ (I : Instance) (x : Assignment) (a : Valid I) (b : Permitted I x) (m : 
   pub load-few : (y : Assignment) (i : ℕ) → load I y i ≤ 288000
   load-few y i = load-small I y i c short
 
-  pub finish-few : makespan I x ≤ 288000
-  finish-few = makespan-le I x 288000 (λ i l u. load-few x i)
+  pub makespan-few : makespan I x ≤ 288000
+  makespan-few = makespan-le I x 288000 (λ i l u. load-few x i)
 
   longest-few : longest I ≤ 288000
   longest-few = longest-le I 288000 (λ j l u. omega (arith, short j))
@@ -99,17 +99,17 @@ module _ (I : Instance) (x : Assignment) (a : Valid I) (b : Permitted I x) (m : 
 
   bound-few : plan I x .lowerBound ≤ 288000
   unfolding plan
-  bound-few = floor-bound x b longest-few finish-few (plan-floor I x a b)
+  bound-few = showing-bound x b longest-few makespan-few (plan-showing I x a b)
 
   small-fits : Fits (plan I x)
   small-fits = record {
-    makespan = omega (arith, plan-no-later I x a b, finish-few);
+    makespan = omega (arith, plan-no-later I x a b, makespan-few);
     bound = omega (arith, bound-few);
-    level = omega (arith, level-few, finish-few);
+    level = omega (arith, level-few, makespan-few);
     lifts = omega (arith, plan-lifts I x a b, lifts-few);
     pushes = omega (arith, plan-pushes I x a b, pushes-few);
     moves = omega (arith, plan-moves I x a b, squares-few (balance I x .assignment));
-    few = omega (arith, floor-few (plan-floor I x a b));
+    few = omega (arith, showing-few (plan-showing I x a b));
   }
 
 pub plan-fits : (s : Sheet) → Sound s → Fits (planBook (bookOf s))

@@ -1,12 +1,12 @@
 -- Planning over arrays: what it starts from, and its figures as the rules give them.
 -- Assumes nothing.
-use Prim.Native.Nat.{ℕ, _≤_, _<_, _^_}
+use Prim.Native.Nat.{ℕ, _≤_, _<_}
 use mathlib.Core.Path.{_≡_, refl, sym, ap, _∙_}
 use mathlib.Core.List.{List}
 use native.Mathlib.Omega.{arith}
 use lib.ListN.{length, take}
-use Rattle.rules.specs.Fold.{at, mem, maxTo, thoseTo}
-use Rattle.rules.specs.Instance.{Instance, Assignment, n, minutesOf, instance}
+use Rattle.rules.specs.Fold.{at, maxTo, thoseTo}
+use Rattle.rules.specs.Instance.{Instance, Assignment, minutesOf, instance}
 use Rattle.rules.specs.Instance as In
 use Rattle.rules.specs.Load.{load, longest, makespan}
 use Rattle.rules.specs.LowerBound.{lowerBound}
@@ -20,19 +20,17 @@ use Rattle.theory.proofs.Planning.{plan-permitted}
 use Rattle.sheet.specs.declared.Sheet.{Sheet}
 use Rattle.sheet.specs.Represent.{Sound, padded, sheetOf, bookOf}
 use Rattle.sheet.proofs.Shown.{view-valid, view-permitted, view-placed}
-use Rattle.arrays.specs.Sets.{has, SetOf}
+use Rattle.arrays.specs.Sets.{has}
 use Rattle.trials.specs.Reads.{Reads}
 use Rattle.trials.specs.Attempt.{Standing}
 use Rattle.trials.specs.Grouping.{Holds}
 use Rattle.trials.proofs.Giving.{load-small}
 use Rattle.planner.specs.declared.balance.Search.{Search}
-use Rattle.planner.specs.declared.settle.Settled.{Settled}
 use Rattle.planner.specs.declared.plan.Drawn.{Drawn}
 use Rattle.planner.specs.Settling.{Known, Placing, SettledTo}
 use Rattle.planner.specs.Search.{Sought}
 use Rattle.planner.specs.Drawing.{Draws}
 use Rattle.planner.specs.Calls.{planOf}
-use Rattle.planner.specs.declared.Planned.{Planned}
 use Rattle.planner.proofs.Reviewing.{max-agree}
 
 -- the greatest load of loads kept beside places
@@ -47,14 +45,14 @@ module _ {I : Instance} {m c : ℕ} {lengths sets places loads : List ℕ} (st :
   unfolding longest
   most-is = max-agree c _ _ (st .reads .minutes) ∙ ap (λ (k : ℕ). maxTo k (λ b. minutesOf I b)) (sym (st .reads .jobs))
 
-  pub finish-is : maxTo m (λ i. at loads i) ≡ makespan I (take c places)
-  finish-is = greatest-is places (st .reads) (λ i l u. st .kept i l (omega (arith, st .reads .machines)))
+  pub makespan-is : maxTo m (λ i. at loads i) ≡ makespan I (take c places)
+  makespan-is = greatest-is places (st .reads) (λ i l u. st .kept i l (omega (arith, st .reads .machines)))
 
   pub most-few : longest I ≤ 1440
   most-few = longest-le I 1440 (λ b l u. st .reads .short b)
 
-  pub finish-few : makespan I (take c places) ≤ 288000
-  finish-few = makespan-le I _ 288000 (λ i l u. load-small I (take c places) i (omega (arith, st .reads .jobs, st .reads .most)) (st .reads .short))
+  pub makespan-few : makespan I (take c places) ≤ 288000
+  makespan-few = makespan-le I _ 288000 (λ i l u. load-small I (take c places) i (omega (arith, st .reads .jobs, st .reads .most)) (st .reads .short))
 
   module _ {s : Search} (found : Sought I m c (take c places) s) where
     pub sought-placing : m ≤ length (s .loads) → Placing I m c (s .places) (s .loads)

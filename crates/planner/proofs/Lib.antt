@@ -1,5 +1,5 @@
 pub mod Drawing
-pub mod Gains
+pub mod Improves
 pub mod Lightest
 pub mod Movers
 pub mod Placing

@@ -12,11 +12,11 @@ use borrow.Author.Tests.{lt-ltb, le-ltb, ne-eqb}
 use Rattle.rules.specs.Fold.{_and_, pick, at, leastTo}
 use Rattle.theory.proofs.Logic.{byTest, conflict, and-mk, and-left}
 use Rattle.theory.proofs.View.{Least, least, any-at}
-use Rattle.arrays.specs.Floor.{less}
+use Rattle.arrays.specs.Less.{less}
 use Rattle.arrays.specs.Sets.{has}
-use Rattle.arrays.proofs.Floor.{less-left, less-right}
+use Rattle.arrays.proofs.Less.{less-left, less-right}
 use Rattle.arrays.proofs.Search.{and-no-left, and-no-right, any-miss}
-use Rattle.planner.specs.Settling.{other, gainsAt, gains, goal, Lightest}
+use Rattle.planner.specs.Settling.{other, improvesInAt, improvesIn, goal, Lightest}
 
 less-one : {X : Type 0} (a b : ℕ) → (less a b ≡ a → X) → (less a b ≡ b → X) → X
 unfolding less
@@ -68,17 +68,17 @@ module _ (loads : List ℕ) (mask : ℕ) where
   -- ---- what it says of a job of w minutes
 
   module _ (place w m key : ℕ) (few : m ≤ 24) (v : Lightest loads mask m key) where
-    stays-at : at loads place ≤ key / 32 + w → (i : ℕ) → 0 < i → i ≤ m → gainsAt loads mask place w i ≡ false
-    unfolding gainsAt other
+    stays-at : at loads place ≤ key / 32 + w → (i : ℕ) → 0 < i → i ≤ m → improvesInAt loads mask place w i ≡ false
+    unfolding improvesInAt other
     stays-at h zero l u = absurd (omega arith)
     stays-at h (suc i) l u =
         byTest (has mask (suc i))
         (λ t. let z = v .bound i u t in and-no-right (other mask place (suc i)) _ (le-ltb (getD loads i 0 + w) (at loads place) (omega arith)))
         (λ t. and-no-left (other mask place (suc i)) _ (and-no-left (has mask (suc i)) _ t))
 
-    pub lightest-stays : at loads place ≤ key / 32 + w → gains loads mask place w m ≡ false
-    unfolding gains
-    lightest-stays h = any-miss m (λ i. gainsAt loads mask place w i) (stays-at h)
+    pub lightest-stays : at loads place ≤ key / 32 + w → improvesIn loads mask place w m ≡ false
+    unfolding improvesIn
+    lightest-stays h = any-miss m (λ i. improvesInAt loads mask place w i) (stays-at h)
 
     module _ (h : key / 32 + w < at loads place) (k : ℕ) (low : k < m) (inside : has mask (suc k) ≡ true) (is-key : key ≡ getD loads k 0 * 32 + k) where
       elsewhere : other mask place (suc k) ≡ true
@@ -87,10 +87,10 @@ module _ (loads : List ℕ) (mask : ℕ) where
           let ne : suc k ≡ place → ⊥ = λ e. let s = ap (at loads) e in omega arith in
           and-mk _ _ inside (rw (ne-eqb (suc k) place ne))
 
-      some-gains : gains loads mask place w m ≡ true
-      unfolding gains gainsAt
-      some-gains =
-          any-at m (λ i. gainsAt loads mask place w i) (suc k) (omega arith) low
+      some-improves : improvesIn loads mask place w m ≡ true
+      unfolding improvesIn improvesInAt
+      some-improves =
+          any-at m (λ i. improvesInAt loads mask place w i) (suc k) (omega arith) low
           (and-mk _ _ elsewhere (lt-ltb (getD loads k 0 + w) (at loads place) (omega arith)))
 
       flat : (i : ℕ) → 0 < i → i ≤ m → other mask place i ≡ true → getD loads k 0 ≤ at loads i
@@ -109,7 +109,7 @@ module _ (loads : List ℕ) (mask : ℕ) where
           let e : key % 32 + 1 ≡ suc k = omega arith in
           e ∙ sym (least-is m (λ i. other mask place i) (λ i. at loads i) k low elsewhere flat strict)
 
-    pub lightest-goes : key / 32 + w < at loads place → key < 4294967295 → (gains loads mask place w m ≡ true) × (key % 32 + 1 ≡ goal loads mask place m)
+    pub lightest-goes : key / 32 + w < at loads place → key < 4294967295 → (improvesIn loads mask place w m ≡ true) × (key % 32 + 1 ≡ goal loads mask place m)
     lightest-goes h small =
         let z = v .held small in
-        (some-gains h (z .0) (z .1) (z .2) (z .3), goes-there h (z .0) (z .1) (z .2) (z .3))
+        (some-improves h (z .0) (z .1) (z .2) (z .3), goes-there h (z .0) (z .1) (z .2) (z .3))

@@ -13,9 +13,9 @@ use Rattle.theory.proofs.Logic.{byTest, conflict, and-left, and-right, and-mk}
 use Rattle.theory.proofs.View.{None, Greatest, greatest}
 use Rattle.arrays.specs.Rows.{inRow}
 use Rattle.arrays.proofs.Search.{and-no-left}
-use Rattle.planner.specs.Settling.{gains, longest}
-use Rattle.planner.specs.Suspects.{Short, gainer, Suspects}
-use Rattle.planner.proofs.Gains.{greater-off, greater-new, greater-stay, greatest-still, greatest-agree}
+use Rattle.planner.specs.Settling.{improvesIn, longest}
+use Rattle.planner.specs.Suspects.{Short, improver, Suspects}
+use Rattle.planner.proofs.Improves.{greater-off, greater-new, greater-stay, greatest-still, greatest-agree}
 
 pub greatest-none : (k : ℕ) (p : ℕ → Bool) (f : ℕ → ℕ) → greatestTo k p f ≡ 0 → None k p
 greatest-none k p f e = from (greatest k p f) e
@@ -88,26 +88,26 @@ module _ (p q : ℕ → Bool) (f : ℕ → ℕ) (sub : (i : ℕ) → q i ≡ tru
 
 module _ (loads places lengths sets : List ℕ) (m n : ℕ) (few : n ≤ 200) where
   abbrev g : ℕ → Bool
-  g b = gainer loads places lengths sets m n b
+  g b = improver loads places lengths sets m n b
 
   abbrev f : ℕ → ℕ
   f b = at lengths b
 
-  gainer-job : (b : ℕ) → g b ≡ true → b ≤ n
-  unfolding gainer
-  gainer-job b e = leb-true b n (and-left _ _ e)
+  improver-job : (b : ℕ) → g b ≡ true → b ≤ n
+  unfolding improver
+  improver-job b e = leb-true b n (and-left _ _ e)
 
-  gainer-is : (b : ℕ) → 0 < b → b ≤ n → g b ≡ gains loads (at sets b) (at places b) (at lengths b) m
-  unfolding gainer _and_
-  gainer-is b l u = rw (le-leb b n u)
+  improver-is : (b : ℕ) → 0 < b → b ≤ n → g b ≡ improvesIn loads (at sets b) (at places b) (at lengths b) m
+  unfolding improver _and_
+  improver-is b l u = rw (le-leb b n u)
 
-  gainer-past : (b : ℕ) → n < b → b ≤ 256 → g b ≡ false
-  unfolding gainer
-  gainer-past b l u = and-no-left _ _ (lt-leb b n l)
+  improver-past : (b : ℕ) → n < b → b ≤ 256 → g b ≡ false
+  unfolding improver
+  improver-past b l u = and-no-left _ _ (lt-leb b n l)
 
   pub longest-is : greatestTo 256 g f ≡ longest loads places lengths sets m n
   unfolding longest
-  longest-is = greatest-still g f n 256 (omega arith) gainer-past ∙ greatest-agree n _ _ f f gainer-is (λ i l u. refl)
+  longest-is = greatest-still g f n 256 (omega arith) improver-past ∙ greatest-agree n _ _ f f improver-is (λ i l u. refl)
 
   module _ {short : List ℕ} (s : Short lengths n short) where
     -- in row c of `short`
@@ -134,7 +134,7 @@ module _ (loads places lengths sets : List ℕ) (m n : ℕ) (few : n ≤ 200) wh
           let x : inRow short c i ≡ true
           = byTest (inRow short c i) (λ t. t) (λ t. conflict (and-mk _ _ a (rw (back i, t) refl)) b) in
           let y : inRow short c j ≡ false = rw (back j) at (not-true (inRow short c (suc j - 1)) (and-right (g (suc j)) (not (inRow short c (suc j - 1))) d)) in
-          omega (arith, inside c i cl (gainer-job (suc i) a) x, outside c j cl (gainer-job (suc j) (and-left _ _ d)) y)
+          omega (arith, inside c i cl (improver-job (suc i) a) x, outside c j cl (improver-job (suc j) (and-left _ _ d)) y)
 
       -- there is one outside the row: it is the longest of all
       pub longest-out : (job : ℕ) → job ≡ greatestTo 256 out f → (job ≡ 0 → ⊥) → job ≡ longest loads places lengths sets m n
@@ -158,7 +158,7 @@ module _ (loads places lengths sets : List ℕ) (m n : ℕ) (few : n ≤ 200) wh
     suspects-first h some l e = record {
       long = l;
       jobs = λ b u i. ltb-true b n (and-left _ _ (sym (s .each 23 b (omega arith) u) ∙ sym (e b u) ∙ i));
-      each = λ b u t. let bn = gainer-job (suc b) t in e b u ∙ all-in-last h b bn t;
+      each = λ b u t. let bn = improver-job (suc b) t in e b u ∙ all-in-last h b bn t;
     }
 
     -- none in the row before the first
@@ -169,7 +169,7 @@ module _ (loads places lengths sets : List ℕ) (m n : ℕ) (few : n ≤ 200) wh
         none zero l u = absurd (omega arith)
         none (suc b) l u =
             byTest (g (suc b))
-            (λ t. let bn = gainer-job (suc b) t in absurd (omega (arith, inside 0 b (omega arith) bn (h b bn t))))
+            (λ t. let bn = improver-job (suc b) t in absurd (omega (arith, inside 0 b (omega arith) bn (h b bn t))))
             (λ t. t)
 
         zero-is : greatestTo 0 g f ≡ 0

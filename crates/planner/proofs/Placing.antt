@@ -5,32 +5,22 @@ use mathlib.Core.Path.{_≡_, sym, ap, _∙_}
 use mathlib.Core.List.{List}
 use native.Mathlib.Omega.{arith}
 use lib.ListN.{length, take, getD}
-use lib.Dec.{eqb}
-use Rattle.rules.specs.Fold.{pick, at, anyTo, firstTo, leastTo, greatestTo}
-use Rattle.rules.specs.Instance.{Instance, Assignment, n, minutesOf}
+use Rattle.rules.specs.Fold.{at, anyTo, firstTo, leastTo, greatestTo}
+use Rattle.rules.specs.Instance.{Instance, Assignment, minutesOf}
 use Rattle.rules.specs.Load.{load, elsewhere, improvesAt, improves}
 use Rattle.rules.specs.Settle.{mover, target}
-use Rattle.theory.proofs.Logic.{byTest}
-use Rattle.theory.proofs.Fold.{sumTo-bound}
 use Rattle.theory.proofs.Valid.{on-machine}
 use Rattle.theory.proofs.Turn.{first-ext}
 use Rattle.trials.specs.Reads.{Reads}
-use Rattle.planner.specs.Settling.{other, gainsAt, gains, goal, longest, Placing, Known}
+use Rattle.planner.specs.Settling.{other, improvesInAt, improvesIn, goal, longest, Placing, Known}
 use Rattle.trials.proofs.Take.{at-take, take-long}
-use Rattle.trials.proofs.Raising.{least-agree}
+use Rattle.trials.proofs.Giving.{load-small}
+use Rattle.trials.proofs.Rising.{least-agree}
 use Rattle.trials.proofs.Going.{any-ext}
-use Rattle.planner.proofs.Gains.{greatest-agree}
+use Rattle.planner.proofs.Improves.{greatest-agree}
 
-pub load-small : {I : Instance} {m c : ℕ} {lengths sets : List ℕ} → Reads I m c lengths sets → (x : Assignment) (i : ℕ) → load I x i ≤ 288000
-unfolding load
-load-small {I} r x i =
-    omega (
-      arith,
-      sumTo-bound (n I) (λ b. pick (eqb (at x b) i) (minutesOf I b) 0) 1440
-          (λ b l u. byTest (eqb (at x b) i) (λ t. rw t (r .short b)) (λ t. rw t (omega arith))),
-      r .jobs,
-      r .most,
-    )
+pub reads-small : {I : Instance} {m c : ℕ} {lengths sets : List ℕ} → Reads I m c lengths sets → (x : Assignment) (i : ℕ) → load I x i ≤ 288000
+reads-small {I} r x i = load-small I x i (omega (arith, r .jobs, r .most)) (r .short)
 
 module _ {I : Instance} {m c : ℕ} {lengths sets places loads : List ℕ} (r : Reads I m c lengths sets) (p : Placing I m c places loads) where
   -- a job's place is a machine
@@ -44,26 +34,26 @@ module _ {I : Instance} {m c : ℕ} {lengths sets places loads : List ℕ} (r : 
   unfolding other elsewhere
   other-is b i bl bu il iu = rw (r .masks b i bl bu il (omega (arith, r .few)), at-take c places b bu)
 
-  gains-at-is : (b i : ℕ) → 0 < b → b ≤ c → 0 < i → i ≤ m
-      → gainsAt loads (at sets b) (at places b) (at lengths b) i ≡ improvesAt I (take c places) b i
-  unfolding gainsAt improvesAt
-  gains-at-is b i bl bu il iu =
+  improves-at-is : (b i : ℕ) → 0 < b → b ≤ c → 0 < i → i ≤ m
+      → improvesInAt loads (at sets b) (at places b) (at lengths b) i ≡ improvesAt I (take c places) b i
+  unfolding improvesInAt improvesAt
+  improves-at-is b i bl bu il iu =
       let z = place-in b bl bu in
       rw (other-is b i bl bu il iu, p .each i il iu, r .minutes b bl bu, p .each (at places b) (z .0) (z .1), at-take c places b bu)
 
-  pub gains-is : (b : ℕ) → 0 < b → b ≤ c → gains loads (at sets b) (at places b) (at lengths b) m ≡ improves I (take c places) b
-  unfolding gains improves
-  gains-is b l u =
-      any-ext m _ _ (λ i il iu. gains-at-is b i l u il iu)
+  pub improves-is : (b : ℕ) → 0 < b → b ≤ c → improvesIn loads (at sets b) (at places b) (at lengths b) m ≡ improves I (take c places) b
+  unfolding improvesIn improves
+  improves-is b l u =
+      any-ext m _ _ (λ i il iu. improves-at-is b i l u il iu)
       ∙ ap (λ (k : ℕ). anyTo k (λ i. improvesAt I (take c places) b i)) (sym (r .machines))
 
-  pub first-is : firstTo c (λ b. gains loads (at sets b) (at places b) (at lengths b) m) ≡ firstTo c (λ b. improves I (take c places) b)
-  first-is = first-ext c _ _ gains-is
+  pub first-is : firstTo c (λ b. improvesIn loads (at sets b) (at places b) (at lengths b) m) ≡ firstTo c (λ b. improves I (take c places) b)
+  first-is = first-ext c _ _ improves-is
 
   pub mover-is : longest loads places lengths sets m c ≡ mover I (take c places)
   unfolding mover longest
   mover-is =
-      greatest-agree c _ _ _ _ gains-is (r .minutes)
+      greatest-agree c _ _ _ _ improves-is (r .minutes)
       ∙ ap (λ (k : ℕ). greatestTo k (λ b. improves I (take c places) b) (λ b. minutesOf I b)) (sym (r .jobs))
 
   pub target-is : (b : ℕ) → 0 < b → b ≤ c → goal loads (at sets b) (at places b) m ≡ target I (take c places) b
@@ -94,4 +84,4 @@ module _ {m c : ℕ} {lengths sets places loads : List ℕ} (k : Known m c lengt
       (omega (arith, e, r .valid .minutes (suc b) (omega arith) (omega (arith, r .jobs))), omega (arith, e, r .short (suc b)))
 
   pub known-small : (i : ℕ) → i < m → getD loads i 0 ≤ 288000
-  known-small i u = omega (arith, k .placing .each (suc i) (omega arith) u, load-small (k .said .reads) (take c places) (suc i))
+  known-small i u = omega (arith, k .placing .each (suc i) (omega arith) u, reads-small (k .said .reads) (take c places) (suc i))

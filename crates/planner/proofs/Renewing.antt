@@ -21,8 +21,8 @@ use Rattle.arrays.specs.Rows.{inRow, between, Out, In, Entered}
 use Rattle.arrays.proofs.Search.{and-no-left, and-no-right}
 use Rattle.arrays.proofs.Words.{has-and, has-or}
 use Rattle.arrays.proofs.Entering.{same-bool, between-is, is-between}
-use Rattle.planner.specs.Settling.{gainsAt, gains}
-use Rattle.planner.specs.Suspects.{gainer, Suspects, Gathered, Listed, Added, drawn, crowded}
+use Rattle.planner.specs.Settling.{improvesInAt, improvesIn}
+use Rattle.planner.specs.Suspects.{improver, Suspects, Gathered, Listed, Added, drawn, crowded}
 
 -- ---- word by word
 
@@ -149,12 +149,12 @@ module _ {lengths places : List ℕ} {m c : ℕ} {short on : List ℕ} (v : List
     drawn-all a = added-fewer a (λ b l e. and-mk _ _ (lt-ltb (getD places b 0) (suc m) (let z = v .placed b l .1 in omega arith)) e)
 
     -- with those on machine j that would finish earlier anywhere
-    pub renewed : {old mid new : List ℕ} {r j floor : ℕ} → r < 24 → j < 24 → ((t : ℕ) → 0 < t → t ≤ m → floor ≤ at loads t)
-        → ((w : ℕ) → w < getD loads j 0 - floor → w ≤ 1440 → w < 64 * r) → Gathered short on r j old mid
+    pub renewed : {old mid new : List ℕ} {r j bottom : ℕ} → r < 24 → j < 24 → ((t : ℕ) → 0 < t → t ≤ m → bottom ≤ at loads t)
+        → ((w : ℕ) → w < getD loads j 0 - bottom → w ≤ 1440 → w < 64 * r) → Gathered short on r j old mid
         → Added c (λ b. drawn lengths places loads i b) mid new
         → Added c (λ b. crowded lengths places loads m j b or drawn lengths places loads i b) old new
     unfolding crowded
-    renewed {j = j} {floor} rl jl low over g a =
+    renewed {j = j} {bottom} rl jl low over g a =
         added-both (v .few) (added-on rl jl over g) a
         (λ b l e.
         or-cases (eqb (getD places b 0) (suc j) and anyTo m (λ t. ltb (at loads t + getD lengths b 0) (getD loads j 0))) _ e
@@ -162,9 +162,9 @@ module _ {lengths places : List ℕ} {m c : ℕ} {short on : List ℕ} (v : List
         (gap b (any-some m (λ t. ltb (at loads t + getD lengths b 0) (getD loads j 0)) (and-right (eqb (getD places b 0) (suc j)) _ d)))))
         (λ d. inr d))
       where
-        gap : (b : ℕ) → Some m (λ t. ltb (at loads t + getD lengths b 0) (getD loads j 0)) → ltb (getD lengths b 0) (getD loads j 0 - floor) ≡ true
+        gap : (b : ℕ) → Some m (λ t. ltb (at loads t + getD lengths b 0) (getD loads j 0)) → ltb (getD lengths b 0) (getD loads j 0 - bottom) ≡ true
         gap b (Some.here t t0 tm e) =
-            lt-ltb (getD lengths b 0) (getD loads j 0 - floor) (omega (arith, low t t0 tm, ltb-true (at loads t + getD lengths b 0) (getD loads j 0) e))
+            lt-ltb (getD lengths b 0) (getD loads j 0 - bottom) (omega (arith, low t t0 tm, ltb-true (at loads t + getD lengths b 0) (getD loads j 0) e))
 
 -- ---- a move
 
@@ -206,9 +206,9 @@ module _ (loads places : List ℕ) (i j k v w : ℕ) where
       (s : Suspects loads places lengths sets m c some)
       (d : Added c (λ b. crowded lengths placed after m j b or drawn lengths placed after i b) some new) where
     -- a job that would finish earlier on machine t after the move
-    module _ (b : ℕ) (bc : b < c) (t : ℕ) (t0 : 0 < t) (tm : t ≤ m) (e : gainsAt after (getD sets b 0) (getD placed b 0) (getD lengths b 0) t ≡ true) where
+    module _ (b : ℕ) (bc : b < c) (t : ℕ) (t0 : 0 < t) (tm : t ≤ m) (e : improvesInAt after (getD sets b 0) (getD placed b 0) (getD lengths b 0) t ≡ true) where
       sooner : at after t + getD lengths b 0 < at after (getD placed b 0)
-      unfolding gainsAt
+      unfolding improvesInAt
       sooner = ltb-true _ _ (and-right _ _ e)
 
       -- it is on the machine that has grown
@@ -229,7 +229,7 @@ module _ (loads places : List ℕ) (i j k v w : ℕ) where
 
       -- or it would have gone before
       went : getD placed b 0 ≢ suc j → t ≢ suc i → inRow new 0 b ≡ true
-      unfolding gainer gains gainsAt
+      unfolding improver improvesIn improvesInAt
       went p ne =
           let bk : b ≢ k = λ z. p (ap (λ (x : ℕ). getD placed x 0) z ∙ getD-set-same places k (j + 1) 0 (omega arith) ∙ (let y : j + 1 ≡ suc j = omega arith in y)) in
           let q : getD placed b 0 ≡ getD places b 0 = getD-set-other places k b (j + 1) 0 bk in
@@ -239,10 +239,10 @@ module _ (loads places : List ℕ) (i j k v w : ℕ) where
           d .kept b (omega arith)
           (s .each b (omega arith)
           (and-mk _ _ (le-leb (suc b) c bc)
-          (any-at m (λ x. gainsAt loads (getD sets b 0) (getD places b 0) (getD lengths b 0) x) t t0 tm
+          (any-at m (λ x. improvesInAt loads (getD sets b 0) (getD places b 0) (getD lengths b 0) x) t t0 tm
           (and-mk _ _ (rw q at (and-left _ _ e)) (lt-ltb _ _ was)))))
 
-    found : (b : ℕ) → b < c → Some m (λ t. gainsAt after (getD sets b 0) (getD placed b 0) (getD lengths b 0) t) → inRow new 0 b ≡ true
+    found : (b : ℕ) → b < c → Some m (λ t. improvesInAt after (getD sets b 0) (getD placed b 0) (getD lengths b 0) t) → inRow new 0 b ≡ true
     found b bc (Some.here t t0 tm e) =
         elim (ℕ-discrete (getD placed b 0) (suc j)) [
           | yes p ↦ on-grown b bc t t0 tm e p
@@ -254,13 +254,13 @@ module _ (loads places : List ℕ) (i j k v w : ℕ) where
         ]
 
     pub suspects-moved : Suspects after placed lengths sets m c new
-    unfolding gainer gains
+    unfolding improver improvesIn
     suspects-moved = record {
       long = d .long ∙ s .long;
       jobs = λ b l e. ⊎-elim (λ z. s .jobs b l z) (λ z. z) (d .jobs b l e);
       each = λ b l e.
           found b (leb-true (suc b) c (and-left _ _ e))
-          (any-some m (λ t. gainsAt after (getD sets b 0) (getD placed b 0) (getD lengths b 0) t) (and-right (leb (suc b) c) _ e));
+          (any-some m (λ t. improvesInAt after (getD sets b 0) (getD placed b 0) (getD lengths b 0) t) (and-right (leb (suc b) c) _ e));
     }
 
 pub placed-in : (places : List ℕ) {m c j : ℕ} (k : ℕ) → j < m → k < length places → ((b : ℕ) → b < c → (0 < getD places b 0) × (getD places b 0 ≤ m))

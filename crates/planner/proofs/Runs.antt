@@ -1,40 +1,37 @@
 -- Demand 3: from any file without a fault, through any list of calls.
 -- Assumes nothing.
 use Prim.Native.Nat.{ℕ, _-_}
-use mathlib.Core.Path.{_≡_, refl, sym, ap, _∙_}
+use mathlib.Core.Path.{_≡_, refl, ap, _∙_}
 use mathlib.Core.Bool.{Bool, true, false}
 use mathlib.Core.List.{List, [], _∷_, map}
-use native.Mathlib.Omega.{arith}
 use lib.ListN.{length, take, replicate}
 use lib.Seq.{take-at}
-use lib.Dec.{leb, eqb}
+use lib.Dec.{leb}
 use Rattle.rules.specs.Refusal as N
-use Rattle.rules.specs.Fold.{pick}
 use Rattle.rules.specs.Sheet.{Book, size, sound}
 use Rattle.rules.specs.Edit as E
 use Rattle.rules.specs.Read.{read, accepted}
-use Rattle.rules.specs.Instance.{instance, places, n}
+use Rattle.rules.specs.Instance.{instance, places}
 use Rattle.rules.specs.Load.{load, review, total}
 use Rattle.rules.specs.Trial.{ended}
 use Rattle.rules.specs.Group as G
-use Rattle.rules.specs.Run.{Call, Answer, answer, next, bookAfter, answers, answerNumbers, editAnswer, editBook, tryAnswer, planBook, withPlaces}
+use Rattle.rules.specs.Run.{Call, answer, next, bookAfter, answers, answerNumbers, editAnswer, editBook, tryAnswer, planBook}
 use Rattle.rules.specs.Run as R
 use Rattle.theory.proofs.Sound.{jobs-count, sound-valid, sound-permitted, read-sound}
 use Rattle.theory.proofs.Trial.{Outcome, passes, fails, outcome, trial-permitted}
-use Rattle.theory.proofs.Planning.{plan-permitted}
-use Rattle.theory.proofs.Runs.{Claims, sound-claims, next-sound, run-sound}
+use Rattle.theory.proofs.Runs.{sound-claims, next-sound}
 use Rattle.sheet.specs.declared.Sheet.{Sheet}
 use Rattle.sheet.specs.declared.Edited.{Edited}
 use Rattle.sheet.specs.declared.Reading.{Reading}
-use Rattle.sheet.specs.Represent.{Sound, padded, sheetOf, bookOf}
-use Rattle.sheet.specs.Answers.{coded, numberOf, coded-number, editedAs, editOf, readOf}
+use Rattle.sheet.specs.Represent.{padded, sheetOf, bookOf}
+use Rattle.sheet.specs.Answers.{numberOf, coded-number, editedAs, editOf, readOf}
 use Rattle.sheet.specs.declared.Refusal.the-variants.{Nothing}
 use Rattle.sheet.proofs.Accepted.{is-accepted}
 use Rattle.sheet.proofs.Marking.{length-listTo}
 use Rattle.sheet.proofs.Represent.{book-sheet, sheet-sound}
 use Rattle.planner.specs.declared.Tried.{Tried}
-use Rattle.planner.specs.Calls.{reviewOf, trialOf, planOf, trialAnswer, triedAs, refusedTrial}
-use Rattle.planner.specs.Runs.{Reply, edited, reviewed, tried, planned, Link, editing, reviewing, trying, planning, Chain, link, triedFigures, replyNumbers, chainNumbers, Stands, Holds, call, Whole}
+use Rattle.planner.specs.Calls.{reviewOf, trialOf, planOf, trialAnswer, triedAs}
+use Rattle.planner.specs.Runs.{Reply, edited, reviewed, tried, planned, Link, editing, reviewing, trying, planning, Chain, link, replyNumbers, chainNumbers, Stands, Holds, call, Whole}
 use Rattle.planner.specs.Runs as S
 
 -- ---- a sheet that holds a book

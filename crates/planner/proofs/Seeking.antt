@@ -1,19 +1,17 @@
 -- The search over levels: its start, one trial more, and its end.
 -- Assumes nothing.
 use Prim.Native.Nat.{ℕ, zero, suc, _+_, _-_, _/_, _≤_, _<_}
-use mathlib.Core.Path.{_≡_, refl, sym, ap, _∙_}
+use mathlib.Core.Path.{_≡_, refl, sym, _∙_}
 use mathlib.Core.Bool.{Bool, true, false}
 use mathlib.Core.List.{List, []}
-use native.Mathlib.Nat.{le-refl}
 use native.Mathlib.Numerals.{add-one}
 use native.Mathlib.Omega.{arith}
 use lib.ListN.{take}
-use lib.Dec.{ltb}
 use borrow.Author.Tests.{ltb-true}
-use Rattle.rules.specs.Fold.{pick, thoseTo}
+use Rattle.rules.specs.Fold.{thoseTo}
 use Rattle.rules.specs.Instance.{Instance, Assignment}
 use Rattle.rules.specs.Load.{makespan}
-use Rattle.rules.specs.Group.{Tried, trial, passed, failed}
+use Rattle.rules.specs.Group.{trial, passed}
 use Rattle.rules.specs.Balance as B
 use Rattle.arrays.specs.Sets.{has}
 use Rattle.arrays.proofs.Words.{set-none}

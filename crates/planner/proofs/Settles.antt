@@ -15,7 +15,7 @@ use Rattle.theory.proofs.Fold.{sumTo-ext, sumTo-bound}
 use Rattle.theory.proofs.Settling.{move-lowers, run-still}
 use Rattle.trials.specs.Reads.{Reads}
 use Rattle.planner.specs.Settling.{Placing, Moved, SettledTo}
-use Rattle.planner.proofs.Placing.{load-small}
+use Rattle.planner.proofs.Placing.{reads-small}
 use Rattle.planner.proofs.Relocate.{due-improves}
 
 -- ---- the sum of squared loads
@@ -32,7 +32,7 @@ module _ {I : Instance} {m c : ℕ} {lengths sets : List ℕ} (r : Reads I m c l
   squares-small x =
       omega (
         arith,
-        sumTo-bound (I .m) (λ i. load I x i * load I x i) (288000 * 288000) (λ i l u. mul-le-mul (load-small r x i) (load-small r x i)),
+        sumTo-bound (I .m) (λ i. load I x i * load I x i) (288000 * 288000) (λ i l u. mul-le-mul (reads-small r x i) (reads-small r x i)),
         r .machines,
         r .few,
       )

@@ -1,33 +1,29 @@
 -- A trial of a sound sheet: what it starts from, and its answer as the rules give it.
 -- Assumes nothing.
-use Prim.Native.Nat.{ℕ, _+_, _-_, _*_, _≤_, _<_, _^_}
+use Prim.Native.Nat.{ℕ, _-_, _≤_, _<_}
 use mathlib.Core.Path.{_≡_, refl, sym, ap, _∙_}
 use mathlib.Core.Bool.{Bool, true, false}
-use mathlib.Core.List.{List, _++_, map}
+use mathlib.Core.List.{List}
 use native.Mathlib.Omega.{arith}
-use lib.ListN.{length, take, replicate, length-map}
-use lib.Dec.{leb, eqb}
+use lib.ListN.{length, take, replicate}
+use lib.Dec.{eqb}
 use borrow.Author.Tests.{le-leb, lt-leb}
 use Rattle.rules.specs.Fold.{pick, at, sumTo, maxTo, thoseTo}
 use Rattle.rules.specs.Sheet.{Book}
-use Rattle.rules.specs.Instance.{Instance, Job, n, instance, places, minutesOf}
-use Rattle.rules.specs.Load.{load, longest, total}
-use Rattle.rules.specs.Group.{trial, passed, failed}
+use Rattle.rules.specs.Instance.{Instance, n, instance, places, minutesOf}
+use Rattle.rules.specs.Load.{longest, total}
+use Rattle.rules.specs.Group.{trial, passed}
 use Rattle.rules.specs.Run.{answer}
 use Rattle.theory.proofs.Valid.{Permitted}
 use Rattle.theory.proofs.Fold.{sumTo-ext, sumTo-bound}
 use Rattle.theory.proofs.Makespan.{max-le}
-use Rattle.sheet.specs.declared.Sheet.{Sheet}
 use Rattle.sheet.specs.declared.Refusal.the-variants.{Nothing, LevelAbove}
-use Rattle.sheet.specs.Represent.{padded, bookOf, Sound}
-use Rattle.sheet.proofs.Padded.{length-padded}
-use Rattle.sheet.proofs.Shown.{view-batches, view-short, minutes-at}
-use Rattle.arrays.specs.Sets.{has, SetOf}
+use Rattle.sheet.specs.Represent.{padded}
+use Rattle.arrays.specs.Sets.{has}
 use Rattle.trials.specs.Reads.{Reads}
 use Rattle.trials.specs.Attempt.{Standing, Tries}
 use Rattle.trials.specs.Grouping.{Holds}
 use Rattle.trials.proofs.Groups.{members-group}
-use Rattle.planner.specs.declared.Tried.{Tried}
 use Rattle.planner.specs.Calls.{trialOf, refusedTrial, triedAs}
 use Rattle.planner.proofs.Reviewing.{max-agree, added-loads}
 

@@ -20,9 +20,9 @@ use Rattle.arrays.specs.Rows.{inRow, LowestBit}
 use Rattle.arrays.proofs.Bits.{trailing-clear, trailing-set, trailing-small}
 use Rattle.arrays.proofs.Words.{has-suc, set-zero}
 use Rattle.arrays.proofs.JobRows.{has-less}
-use Rattle.planner.specs.Settling.{gains, goal}
-use Rattle.planner.specs.Suspects.{gainer, Suspects, Longest}
-use Rattle.planner.proofs.Gains.{and-true, greater-off, greater-new, greater-stay, greatest-still}
+use Rattle.planner.specs.Settling.{improvesIn, goal}
+use Rattle.planner.specs.Suspects.{improver, Suspects, Longest}
+use Rattle.planner.proofs.Improves.{and-true, greater-off, greater-new, greater-stay, greatest-still}
 
 -- ---- sets by their words
 
@@ -64,7 +64,7 @@ pub record Sift (loads places lengths sets short : List ℕ) (m n c q : ℕ) (so
   pub range : upto ≤ 64
   pub word : x < 2 ^ 64
   pub found : Longest loads places lengths sets short m n c (64 * q + upto) job to minutes
-  pub ahead : (j : ℕ) → upto ≤ j → j < 64 → gainer loads places lengths sets m n (suc (64 * q + j)) ≡ true → inRow short c (64 * q + j) ≡ false
+  pub ahead : (j : ℕ) → upto ≤ j → j < 64 → improver loads places lengths sets m n (suc (64 * q + j)) ≡ true → inRow short c (64 * q + j) ≡ false
       → has x (suc j) ≡ true
   pub left : (j : ℕ) → j < 64 → has x (suc j) ≡ true → (upto ≤ j) × (64 * q + j < n) × (inRow short c (64 * q + j) ≡ false)
   pub suspects : Suspects loads places lengths sets m n (set some q kept)
@@ -72,7 +72,7 @@ pub record Sift (loads places lengths sets short : List ℕ) (m n c q : ℕ) (so
 module _ (loads places lengths sets short : List ℕ) (m n c q : ℕ) where
   -- job b passes
   abbrev passes : ℕ → Bool
-  passes b = gainer loads places lengths sets m n b and not (inRow short c (b - 1))
+  passes b = improver loads places lengths sets m n b and not (inRow short c (b - 1))
 
   abbrev takes : ℕ → ℕ
   takes b = at lengths b
@@ -110,7 +110,7 @@ module _ (loads places lengths sets short : List ℕ) (m n c q : ℕ) where
     absent j lo hi e =
         byTest (passes (suc (64 * q + j)))
         (λ t.
-        let o : inRow short c (64 * q + j) ≡ false = rw (back (64 * q + j)) at (not-true (inRow short c (suc (64 * q + j) - 1)) (and-right (gainer loads places lengths sets m n (suc (64 * q + j))) (not (inRow short c (suc (64 * q + j) - 1))) t)) in
+        let o : inRow short c (64 * q + j) ≡ false = rw (back (64 * q + j)) at (not-true (inRow short c (suc (64 * q + j) - 1)) (and-right (improver loads places lengths sets m n (suc (64 * q + j))) (not (inRow short c (suc (64 * q + j) - 1))) t)) in
         conflict (s .ahead j lo hi (and-left _ _ t) o) e)
         (λ t. t)
 
@@ -148,8 +148,8 @@ module _ (loads places lengths sets short : List ℕ) (m n c q : ℕ) where
       before : Longest loads places lengths sets short m n c (64 * q + t) job to minutes
       before = sifted-to t (here .0) (omega (arith, lowest-in x (s .word) some-left)) (λ j l u. below-clear x j l)
 
-      passes-here : passes (suc (64 * q + t)) ≡ gains loads (getD sets (64 * q + t) 0) (getD places (64 * q + t) 0) (getD lengths (64 * q + t) 0) m
-      unfolding gainer _and_
+      passes-here : passes (suc (64 * q + t)) ≡ improvesIn loads (getD sets (64 * q + t) 0) (getD places (64 * q + t) 0) (getD lengths (64 * q + t) 0) m
+      unfolding improver _and_
       passes-here = rw (le-leb (suc (64 * q + t)) n (here .1), back (64 * q + t), here .2) (and-true _)
 
       -- the job that the bit stands for is looked at
@@ -200,11 +200,11 @@ module _ (loads places lengths sets short : List ℕ) (m n c q : ℕ) where
           (s .found .goes) (s .found .takes) (s .suspects)
 
       -- it would finish earlier elsewhere
-      pub turn-gains : (job′ to′ : ℕ) → job′ ≡ suc (64 * q + t) → minutes < getD lengths (64 * q + t) 0
-          → gains loads (getD sets (64 * q + t) 0) (getD places (64 * q + t) 0) (getD lengths (64 * q + t) 0) m ≡ true
+      pub turn-improves : (job′ to′ : ℕ) → job′ ≡ suc (64 * q + t) → minutes < getD lengths (64 * q + t) 0
+          → improvesIn loads (getD sets (64 * q + t) 0) (getD places (64 * q + t) 0) (getD lengths (64 * q + t) 0) m ≡ true
           → to′ ≡ goal loads (getD sets (64 * q + t) 0) (getD places (64 * q + t) 0) m
           → Sift loads places lengths sets short m n c q some (x - r) kept job′ to′ (getD lengths (64 * q + t) 0)
-      turn-gains job′ to′ e l g o =
+      turn-improves job′ to′ e l g o =
           rw e
           (turn (suc (64 * q + t)) to′ (getD lengths (64 * q + t) 0) kept
           (sym (rw (passes-here ∙ g) (greater-new takes job (suc (64 * q + t)) (λ z. omega (arith, s .found .takes)))))
@@ -212,7 +212,7 @@ module _ (loads places lengths sets short : List ℕ) (m n c q : ℕ) where
 
       -- it would not, and is no suspect any more
       module _ (inside : q < length some) (small : r < 2 ^ 64)
-          (not-gains : gains loads (getD sets (64 * q + t) 0) (getD places (64 * q + t) 0) (getD lengths (64 * q + t) 0) m ≡ false) where
+          (not-improves : improvesIn loads (getD sets (64 * q + t) 0) (getD places (64 * q + t) 0) (getD lengths (64 * q + t) 0) m ≡ false) where
         abbrev fewer : ℕ
         fewer = bitAnd kept (18446744073709551615 - r)
 
@@ -230,16 +230,16 @@ module _ (loads places lengths sets short : List ℕ) (m n c q : ℕ) where
                   set-row some q kept b inside ∙ rw (ne-eqb (b / 64) q ne) i
             ]
 
-        fewer-each : (b : ℕ) → b < 256 → gainer loads places lengths sets m n (suc b) ≡ true → inRow (set some q kept) 0 b ≡ true
+        fewer-each : (b : ℕ) → b < 256 → improver loads places lengths sets m n (suc b) ≡ true → inRow (set some q kept) 0 b ≡ true
             → inRow (set some q fewer) 0 b ≡ true
-        unfolding gainer
+        unfolding improver
         fewer-each b l g e =
             elim (ℕ-discrete (b / 64) q) [
               | yes z ↦
                   let i = (rw (eq-eqb (b / 64) q z) at (sym (set-row some q kept b inside) ∙ e)) in
                   let ne : b % 64 ≡ t → ⊥ = λ y.
                   let w : b ≡ 64 * q + t = omega arith in
-                  conflict (and-right (leb (suc b) n) _ g) (rw w not-gains) in
+                  conflict (and-right (leb (suc b) n) _ g) (rw w not-improves) in
                   set-row some q fewer b inside
                   ∙ rw (eq-eqb (b / 64) q z) (fewer-has (b % 64) (omega arith) ∙ and-mk _ _ i (not-mk (ne-eqb (b % 64) t ne)))
               | no ne ↦
@@ -250,7 +250,7 @@ module _ (loads places lengths sets short : List ℕ) (m n c q : ℕ) where
         pub turn-stays : Sift loads places lengths sets short m n c q some (x - r) fewer job to minutes
         turn-stays =
             turn job to minutes fewer
-            (sym (rw (passes-here ∙ not-gains) (greater-off takes job (suc (64 * q + t)))))
+            (sym (rw (passes-here ∙ not-improves) (greater-off takes job (suc (64 * q + t)))))
             (s .found .goes) (s .found .takes)
             record {
               long = length-set some q fewer ∙ sym (length-set some q kept) ∙ s .suspects .long;

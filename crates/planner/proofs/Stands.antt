@@ -10,18 +10,17 @@ use lib.Seq.{getD-drop, length-take-le, take-suc}
 use native.Mathlib.Numerals.{add-one}
 use lib.Dec.{leb, eqb}
 use borrow.Author.Tests.{le-leb}
-use Rattle.rules.specs.Fold.{_and_, pick, at, sumTo, maxTo}
-use Rattle.rules.specs.Instance.{Instance, Job, n, instance, places, minutesOf, listOf, eligible}
-use Rattle.rules.specs.Load.{load, longest, total, review}
+use Rattle.rules.specs.Fold.{_and_, pick, at}
+use Rattle.rules.specs.Instance.{Instance, Job, n, instance, places, eligible}
+use Rattle.rules.specs.Load.{review}
 use Rattle.theory.proofs.Valid.{Valid, Permitted}
 use Rattle.theory.proofs.Logic.{byTest}
-use Rattle.theory.proofs.Fold.{sumTo-ext}
 use Rattle.sheet.specs.declared.Sheet.{Sheet}
 use Rattle.sheet.specs.Represent.{padded, bookOf, Sound}
 use Rattle.sheet.specs.View.{marks}
 use Rattle.sheet.proofs.Padded.{set-append}
-use Rattle.sheet.proofs.Shown.{view-instruments, view-batches, view-valid, view-permitted, view-short, view-lists, view-taken, minutes-at, marks-at}
-use Rattle.arrays.specs.Sets.{has, SetOf, SetsOf}
+use Rattle.sheet.proofs.Shown.{view-instruments, view-batches, view-valid, view-short, view-lists, view-taken, minutes-at, marks-at}
+use Rattle.arrays.specs.Sets.{has, SetsOf}
 use Rattle.rules.specs.Sheet.{Book}
 use Rattle.trials.specs.Reads.{Reads}
 use Rattle.planner.specs.declared.Reviewed.{Reviewed}
@@ -29,7 +28,6 @@ use Rattle.planner.specs.declared.laid.Laid.{Laid}
 use Rattle.planner.specs.Laid.{Lays}
 use Rattle.planner.specs.Settling.{Placing, Known, ReviewIs}
 use Rattle.planner.specs.Calls.{reviewOf}
-use Rattle.planner.proofs.Reviewing.{max-agree}
 
 -- ---- a list in w entries
 

@@ -1,15 +1,14 @@
 -- What review, a trial and planning answer, by the rules: each case with document 01's numbers and values.
 -- Assumes nothing.
 use Prim.Native.Nat.{ℕ}
-use mathlib.Core.Bool.{Bool, true, false}
-use mathlib.Core.List.{List}
+use mathlib.Core.Bool.{true, false}
 use lib.ListN.{length, replicate}
 use Rattle.rules.specs.Refusal as R
 use Rattle.rules.specs.Sheet.{Book}
 use Rattle.rules.specs.Load as L
 use Rattle.rules.specs.Group as G
 use Rattle.rules.specs.Plan as P
-use Rattle.rules.specs.Run.{Answer, refused, done, reviewed, tried, planned, answer, reviewing, trying, planBook, withPlaces}
+use Rattle.rules.specs.Run.{Answer, refused, done, reviewed, tried, planned, answer, trying, planBook, withPlaces}
 use Rattle.sheet.specs.declared.Refusal.{Refusal}
 use Rattle.sheet.specs.declared.Refusal.the-variants.{Nothing}
 use Rattle.sheet.specs.Represent.{padded, sheetOf}

@@ -2,7 +2,7 @@
 -- Assumes nothing.
 use Prim.Native.Nat.{ℕ}
 use mathlib.Core.Path.{_≡_}
-use lib.ListN.{length, take}
+use lib.ListN.{take}
 use Rattle.rules.specs.Instance.{Instance, Assignment}
 use Rattle.rules.specs.Plan.{plan}
 use Rattle.trials.specs.Grouping.{Holds}

@@ -1,9 +1,8 @@
 -- The search over levels on arrays, and what of the rules' search it holds.
 -- Assumes nothing.
-use Prim.Native.Nat.{ℕ, suc, _+_, _-_, _/_, _≤_, _<_}
+use Prim.Native.Nat.{ℕ, _+_, _≤_, _<_}
 use mathlib.Core.Path.{_≡_}
 use mathlib.Core.Bool.{Bool}
-use mathlib.Core.List.{List}
 use lib.ListN.{take}
 use lib.Dec.{ltb}
 use Rattle.rules.specs.Fold.{pick, at, mem, thoseTo}

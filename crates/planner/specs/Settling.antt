@@ -19,12 +19,12 @@ unfoldable pub other : ℕ → ℕ → ℕ → Bool
 other mask place i = has mask i and not (eqb i place)
 
 -- a job of w minutes, with its set of machines and its place, would finish earlier on machine i
-unfoldable pub gainsAt : List ℕ → ℕ → ℕ → ℕ → ℕ → Bool
-gainsAt loads mask place w i = other mask place i and ltb (at loads i + w) (at loads place)
+unfoldable pub improvesInAt : List ℕ → ℕ → ℕ → ℕ → ℕ → Bool
+improvesInAt loads mask place w i = other mask place i and ltb (at loads i + w) (at loads place)
 
 -- on some machine
-unfoldable pub gains : List ℕ → ℕ → ℕ → ℕ → ℕ → Bool
-gains loads mask place w m = anyTo m (λ i. gainsAt loads mask place w i)
+unfoldable pub improvesIn : List ℕ → ℕ → ℕ → ℕ → ℕ → Bool
+improvesIn loads mask place w m = anyTo m (λ i. improvesInAt loads mask place w i)
 
 -- r is the lightest machine of the set, the lowest on a tie, as 32 times its load and its index; or none is in the set, and r is the most that a
 -- word holds
@@ -38,12 +38,12 @@ goal loads mask place m = leastTo m (λ i. other mask place i) (λ i. at loads i
 
 -- r is where it goes if it would finish earlier elsewhere, and 0 if not
 pub record Better (loads : List ℕ) (mask place w m r : ℕ) : Type 0 where
-  pub stays : r ≡ 0 → gains loads mask place w m ≡ false
-  pub goes : 0 < r → (gains loads mask place w m ≡ true) × (r ≡ goal loads mask place m)
+  pub stays : r ≡ 0 → improvesIn loads mask place w m ≡ false
+  pub goes : 0 < r → (improvesIn loads mask place w m ≡ true) × (r ≡ goal loads mask place m)
 
 -- of the jobs 1 to c, the longest that would finish earlier elsewhere, the lowest number on a tie
 unfoldable pub longest : List ℕ → List ℕ → List ℕ → List ℕ → ℕ → ℕ → ℕ
-longest loads places lengths sets m c = greatestTo c (λ b. gains loads (at sets b) (at places b) (at lengths b) m) (λ b. at lengths b)
+longest loads places lengths sets m c = greatestTo c (λ b. improvesIn loads (at sets b) (at places b) (at lengths b) m) (λ b. at lengths b)
 
 -- each of the c jobs has a place that it may have, and the loads of the m machines stand beside
 pub record Placing (I : Instance) (m c : ℕ) (places loads : List ℕ) : Type 0 where

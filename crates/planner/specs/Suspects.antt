@@ -10,7 +10,7 @@ use lib.ListN.{length, getD}
 use lib.Dec.{ltb, leb, eqb}
 use Rattle.rules.specs.Fold.{_and_, _or_, at, anyTo, greatestTo}
 use Rattle.arrays.specs.Rows.{inRow, Entered}
-use Rattle.planner.specs.Settling.{gains, goal}
+use Rattle.planner.specs.Settling.{improvesIn, goal}
 
 -- the row at index r has those of the c jobs that take less than 64 * r minutes
 pub record Short (lengths : List ℕ) (c : ℕ) (rows : List ℕ) : Type 0 where
@@ -29,18 +29,18 @@ pub record Piled (old new : List ℕ) : Type 0 where
   pub each : (r b : ℕ) → suc r < 24 → b < 256 → inRow new (suc r) b ≡ (inRow old (suc r) b or inRow new r b)
 
 -- job b is one of the c jobs, and would finish earlier elsewhere
-unfoldable pub gainer : List ℕ → List ℕ → List ℕ → List ℕ → ℕ → ℕ → ℕ → Bool
-gainer loads places lengths sets m c b = leb b c and gains loads (at sets b) (at places b) (at lengths b) m
+unfoldable pub improver : List ℕ → List ℕ → List ℕ → List ℕ → ℕ → ℕ → ℕ → Bool
+improver loads places lengths sets m c b = leb b c and improvesIn loads (at sets b) (at places b) (at lengths b) m
 
 -- such jobs are in the set, and it has no number that is no job
 pub record Suspects (loads places lengths sets : List ℕ) (m c : ℕ) (some : List ℕ) : Type 0 where
   pub long : length some ≡ 4
   pub jobs : (b : ℕ) → b < 256 → inRow some 0 b ≡ true → b < c
-  pub each : (b : ℕ) → b < 256 → gainer loads places lengths sets m c (suc b) ≡ true → inRow some 0 b ≡ true
+  pub each : (b : ℕ) → b < 256 → improver loads places lengths sets m c (suc b) ≡ true → inRow some 0 b ≡ true
 
 -- of the jobs 1 to k that are not in row r of `short`, the longest that would finish earlier elsewhere, 0 for none; where it goes, and its minutes
 pub record Longest (loads places lengths sets short : List ℕ) (m c r k job to minutes : ℕ) : Type 0 where
-  pub greatest : job ≡ greatestTo k (λ b. gainer loads places lengths sets m c b and not (inRow short r (b - 1))) (λ b. at lengths b)
+  pub greatest : job ≡ greatestTo k (λ b. improver loads places lengths sets m c b and not (inRow short r (b - 1))) (λ b. at lengths b)
   pub goes : 0 < job → to ≡ goal loads (at sets job) (at places job) m
   pub takes : minutes ≡ at lengths job
 

@@ -1,11 +1,11 @@
 // The search over levels, by halving: every trial starts from the same places.
 ghost use mathlib.Core.Path.{_≡_};
-ghost use Prim.Native.Nat.{ℕ, _+_, _-_, _/_, _≤_, _<_};
+ghost use Prim.Native.Nat.{_+_, _-_, _/_, _≤_, _<_};
 ghost use lib.ListN.{length, take};
 ghost use Rattle.rules.specs.Instance.{Instance};
 ghost use Rattle.rules.specs.Load.{longest, makespan};
 ghost use Rattle.trials.specs.Attempt.{Standing};
-ghost use Rattle.planner.specs.Search.{learned, opened, Sought};
+ghost use Rattle.planner.specs.Search.{learned, Sought};
 use arrays::rows::rows_of;
 use trials::trial::Attempt;
 use trials::trial::try_level;
@@ -62,17 +62,17 @@ pub fn balance(
     m: usize,
     n: usize,
     most: u32,
-    finish: u32,
+    highest: u32,
 ) -> Search
-    requires { ⌜ ((I : Instance) × Standing I m n (now minutes) (now masks) places loads × (most ≡ longest I) × (finish ≡ makespan I (take n places))) ⌝ }
-    requires { ⌜ (n ≤ length (now minutes)) × (n ≤ length (now masks)) × (most ≤ 1440) × (finish ≤ 288000) ⌝ }
+    requires { ⌜ ((I : Instance) × Standing I m n (now minutes) (now masks) places loads × (most ≡ longest I) × (highest ≡ makespan I (take n places))) ⌝ }
+    requires { ⌜ (n ≤ length (now minutes)) × (n ≤ length (now masks)) × (most ≤ 1440) × (highest ≤ 288000) ⌝ }
     ensures { λ r. ⌜ ((I : Instance) → Standing I m n (now (minutes .entry)) (now (masks .entry)) places loads → most ≡ longest I
-        → finish ≡ makespan I (take n places) → Sought I m n (take n places) r) ⌝ }
+        → highest ≡ makespan I (take n places) → Sought I m n (take n places) r) ⌝ }
 {
     let mut s = Search {
         failed1: 0,
         group: 0,
-        level: finish,
+        level: highest,
         places,
         loads,
         lifts: 0,

@@ -1,7 +1,7 @@
 // The calls on a sheet: review and one trial at a level, which do not alter it, and planning.
 ghost use mathlib.Core.Path.{_≡_};
-ghost use Prim.Native.Nat.{ℕ, _≤_};
-ghost use lib.ListN.{take, length};
+ghost use Prim.Native.Nat.{_≤_};
+ghost use lib.ListN.{take};
 ghost use Rattle.sheet.specs.Represent.{Sound, bookOf, padded};
 ghost use Rattle.planner.specs.Calls.{trialOf, reviewOf, planOf};
 use crate::Planned;

@@ -6,10 +6,10 @@ ghost use lib.Dec.{ltb};
 ghost use Rattle.rules.specs.Fold.{_and_, pick, at, anyTo, firstTo};
 ghost use Rattle.rules.specs.Instance.{Instance};
 ghost use Rattle.rules.specs.Load.{improves};
-ghost use Rattle.arrays.specs.Floor.{less};
+ghost use Rattle.arrays.specs.Less.{less};
 ghost use Rattle.arrays.specs.Sets.{has};
 ghost use Rattle.trials.specs.Reads.{Reads};
-ghost use Rattle.planner.specs.Settling.{gains, Lightest, Better, Placing, Known};
+ghost use Rattle.planner.specs.Settling.{improvesIn, Lightest, Better, Placing, Known};
 use arrays::sets::is_in;
 
 // Some machine of the set has less load than `cap`.
@@ -30,7 +30,7 @@ fn some_below(loads: &[u32], mask: u32, cap: u32, m: usize) -> bool
 // A job of w minutes would finish earlier on another machine.
 pub fn improves_where(loads: &[u32], mask: u32, place: u8, w: u32, m: usize) -> bool
     requires { ⌜ (m ≤ 24) × (m ≤ length (now loads)) × (0 < place) × (place ≤ length (now loads)) ⌝ }
-    ensures { λ r. ⌜ r ≡ gains (now (loads .entry)) mask place w m ⌝ }
+    ensures { λ r. ⌜ r ≡ improvesIn (now (loads .entry)) mask place w m ⌝ }
 {
     let p = place as usize - 1;
     let top = loads[p];
@@ -110,15 +110,15 @@ fn lightest(loads: &[u32], mask: u32, m: usize) -> u32
 }
 
 // Where a job of w minutes goes: to the lightest of its machines, where it would finish earlier there, and nowhere (0) where
-// it would not. No load is below `floor`.
-pub fn better(loads: &[u32], mask: u32, place: u8, w: u16, floor: u32, m: usize) -> usize
+// it would not. No load is below `bottom`.
+pub fn better(loads: &[u32], mask: u32, place: u8, w: u16, bottom: u32, m: usize) -> usize
     requires { ⌜ (m ≤ 24) × (m ≤ length (now loads)) × (0 < place) × (place ≤ m) × ((i : ℕ) → i < m → getD (now loads) i 0 ≤ 288000)
-        × ((i : ℕ) → 0 < i → i ≤ m → floor ≤ at (now loads) i) ⌝ }
+        × ((i : ℕ) → 0 < i → i ≤ m → bottom ≤ at (now loads) i) ⌝ }
     ensures { λ r. ⌜ Better (now (loads .entry)) mask place w m r ⌝ }
 {
     let p = place as usize - 1;
     let top = loads[p];
-    if top <= floor + w as u32 {
+    if top <= bottom + w as u32 {
         return 0;
     }
     let key = lightest(loads, mask, m);

@@ -1,6 +1,5 @@
 // Planning over arrays: the search over levels, then settling what it leaves.
-ghost use mathlib.Core.Path.{_≡_};
-ghost use Prim.Native.Nat.{ℕ, _≤_};
+ghost use Prim.Native.Nat.{_≤_};
 ghost use lib.ListN.{length, take};
 ghost use Rattle.rules.specs.Instance.{Instance};
 ghost use Rattle.trials.specs.Attempt.{Standing};
@@ -39,8 +38,8 @@ pub fn draw(
     ensures { λ r. ⌜ ((I : Instance) → Standing I m n (now (minutes .entry)) (now (masks .entry)) places loads → Draws I n (take n places) r) ⌝ }
 {
     let most = largest(minutes, n);
-    let finish = largest_load(&loads, m);
-    let s = balance(places, loads, minutes, masks, m, n, most, finish);
+    let highest = largest_load(&loads, m);
+    let s = balance(places, loads, minutes, masks, m, n, most, highest);
     let kept = s.places;
     let left = s.loads;
     let z = settle(kept, left, minutes, masks, n, m);

@@ -76,13 +76,13 @@ fn sift(
     some: &mut [u64],
     n: usize,
     m: usize,
-    floor: u32,
+    bottom: u32,
     c: usize,
     q: usize,
     found: Next,
 ) -> Next
     requires { ⌜ Known m n (now minutes) (now masks) (now places) (now loads) × Suspects (now loads) (now places) (now minutes) (now masks) m n (now some) × (length (now short) ≡ 96)
-        × ((i : ℕ) → 0 < i → i ≤ m → floor ≤ at (now loads) i) × (c < 24) × (q < 4) ⌝ }
+        × ((i : ℕ) → 0 < i → i ≤ m → bottom ≤ at (now loads) i) × (c < 24) × (q < 4) ⌝ }
     requires { ⌜ Longest (now loads) (now places) (now minutes) (now masks) (now short) m n c (64 * q) (found .job) (found .to) (found .minutes) ⌝ }
     ensures { λ r. ⌜ Longest (now (loads .entry)) (now (places .entry)) (now (minutes .entry)) (now (masks .entry)) (now (short .entry)) m n c (64 * (q + 1)) (r .job) (r .to) (r .minutes) ⌝ }
     ensures { λ _. ⌜ Suspects (now (loads .entry)) (now (places .entry)) (now (minutes .entry)) (now (masks .entry)) m n (now (some .exit)) ⌝ }
@@ -97,7 +97,7 @@ fn sift(
         x -= bit;
         let w = minutes[b];
         if best.minutes < w {
-            let to = better(loads, masks[b], places[b], w, floor, m);
+            let to = better(loads, masks[b], places[b], w, bottom, m);
             if to != 0 {
                 best = Next {
                     job: b + 1,
@@ -123,11 +123,11 @@ fn among(
     some: &mut [u64],
     n: usize,
     m: usize,
-    floor: u32,
+    bottom: u32,
     c: usize,
 ) -> Next
     requires { ⌜ Known m n (now minutes) (now masks) (now places) (now loads) × Suspects (now loads) (now places) (now minutes) (now masks) m n (now some) × (length (now short) ≡ 96)
-        × ((i : ℕ) → 0 < i → i ≤ m → floor ≤ at (now loads) i) × (c < 24) ⌝ }
+        × ((i : ℕ) → 0 < i → i ≤ m → bottom ≤ at (now loads) i) × (c < 24) ⌝ }
     ensures { λ r. ⌜ Longest (now (loads .entry)) (now (places .entry)) (now (minutes .entry)) (now (masks .entry)) (now (short .entry)) m n c 256 (r .job) (r .to) (r .minutes) ⌝ }
     ensures { λ _. ⌜ Suspects (now (loads .entry)) (now (places .entry)) (now (minutes .entry)) (now (masks .entry)) m n (now (some .exit)) ⌝ }
 {
@@ -147,7 +147,7 @@ fn among(
             some,
             n,
             m,
-            floor,
+            bottom,
             c,
             q,
             found,
@@ -173,11 +173,11 @@ pub fn mover(
     ensures { λ r. ⌜ (r .job ≡ longest (now (loads .entry)) (now (places .entry)) (now (minutes .entry)) (now (masks .entry)) m n) × (0 < r .job → r .to ≡ goal (now (loads .entry)) (at (now (masks .entry)) (r .job)) (at (now (places .entry)) (r .job)) m) ⌝ }
     ensures { λ _. ⌜ Suspects (now (loads .entry)) (now (places .entry)) (now (minutes .entry)) (now (masks .entry)) m n (now (some .exit)) ⌝ }
 {
-    let floor = least_load(loads, m);
+    let bottom = least_load(loads, m);
     let mut c: usize = 23;
     while c > 0 {
         c -= 1;
-        let found = among(loads, places, minutes, masks, short, some, n, m, floor, c);
+        let found = among(loads, places, minutes, masks, short, some, n, m, bottom, c);
         if found.job != 0 {
             return found;
         }
@@ -241,7 +241,7 @@ pub fn renew(
     ensures { λ _. ⌜ ((lengths places : List ℕ) (n : ℕ) → Listed lengths places m n (now (short .entry)) (now (on .entry))
         → Added n (λ b. crowded lengths places (now (loads .entry)) m j b or drawn lengths places (now (loads .entry)) i b) (now (some .entry)) (now (some .exit))) ⌝ }
 {
-    let floor = least_load(loads, m);
-    gather(some, short, on, row_over(loads[j] - floor), j);
+    let bottom = least_load(loads, m);
+    gather(some, short, on, row_over(loads[j] - bottom), j);
     draw_to(some, short, on, loads, i, m);
 }

@@ -1,15 +1,14 @@
 -- Document 01, "Cases": P1 to P10 in one table, with one theorem over it. The rows from 11 on are more of document 01's cases
 -- and ours: each tells a wrong rule from the right one.
 -- Assumes nothing.
-use Prim.Native.Nat.{ℕ, zero, suc, _+_, _-_, _*_}
+use Prim.Native.Nat.{ℕ, _+_}
 use Prim.Native.String.{String}
 use mathlib.Core.Path.{_≡_, refl}
-use mathlib.Core.Bool.{Bool, true, false, not}
 use mathlib.Core.List.{List, [], _∷_, map, _++_}
 use lib.ListN.{replicate}
 use Rattle.rules.specs.Fold.{_and_, _or_, mem, every, sumTo, most, maxTo, orElse, firstTo, anyTo, allTo, lesser, leastTo, greater, greatestTo, thoseTo, listTo}
-use Rattle.rules.specs.Refusal.{Refusal, malformed, badSize, badLength, badList, badPlace, noBatch, sheetFull, levelAbove, bufferShort}
-use Rattle.rules.specs.Sheet.{Book, Batch, isBatch, goodInstruments, goodMinutes, isInstrument, distinct, goodList, goodBatch, sound}
+use Rattle.rules.specs.Refusal.{malformed, badSize, badLength, badList, badPlace, noBatch, levelAbove}
+use Rattle.rules.specs.Sheet.{Batch, isBatch, goodInstruments, goodMinutes, isInstrument, distinct, goodList, goodBatch, sound}
 use Rattle.rules.specs.Field.{Field, value, fault, digits, loneZero, blanks, field}
 use Rattle.rules.specs.Read.{Reading, accepted, refusedAt, numberAt, endOfLine, headLine, instrumentsAt, batchLine, batchLines, read}
 use Rattle.rules.specs.Render.{columns, fields, renderBatches, render, fitsBatch, fits}
@@ -17,10 +16,10 @@ use Rattle.rules.specs.Edit.{add, withdraw, requalify, move, kept, edit}
 use Rattle.rules.specs.Load.{load, makespan, longest, total, elsewhere, improvesAt, improves, review}
 use Rattle.rules.specs.Settle.{mover, target, moved, squares, settleBy, settle}
 use Rattle.rules.specs.Trial.{underloaded, overloaded, unplaced, machineArc, jobArc, liftOver, pushOr, deed, jobDeed, machineDeed, someUnderloaded, actMachine, actJob, act, stepsBy, liftBound, pushBound, ended}
-use Rattle.rules.specs.Group.{overflows, reach, reachBy, closure, group, Tried, passed, failed, trial}
+use Rattle.rules.specs.Group.{overflows, reach, reachBy, closure, group, passed, failed, trial}
 use Rattle.rules.specs.Balance.{searchBy, balance}
 use Rattle.rules.specs.LowerBound.{within, confined, share, lowerBound}
-use Rattle.rules.specs.Plan.{Plan, plan}
+use Rattle.rules.specs.Plan.{plan}
 use Rattle.rules.specs.Run.{Call, editing, reviewing, trying, planning, Answer, refused, done, reviewed, tried, planned, answer, next, answers}
 use Rattle.rules.specs.Listing.{batchListing, listing, program, Hosted, host}
 use Rattle.rules.specs.Text.{bytes, lines}

@@ -1,7 +1,7 @@
 -- Document 01, "One trial at a level": pass or failure, and the group of a failure.
 -- Assumes nothing.
 use Prim.Native.Nat.{ℕ, zero, suc}
-use mathlib.Core.Bool.{Bool, true, false}
+use mathlib.Core.Bool.{Bool, true}
 use mathlib.Core.List.{List}
 use lib.Dec.{eqb}
 use Rattle.rules.specs.Fold.{_and_, _or_, pick, at, mem, firstTo, anyTo, thoseTo}

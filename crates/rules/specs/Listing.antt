@@ -6,7 +6,7 @@ use mathlib.Core.List.{List, [], _∷_, _++_}
 use lib.ListN.{length, drop}
 use lib.Dec.{leb}
 use Rattle.rules.specs.Fold.{at}
-use Rattle.rules.specs.Refusal.{Refusal, bufferShort, number}
+use Rattle.rules.specs.Refusal.{bufferShort, number}
 use Rattle.rules.specs.Sheet.{Book, size, batch}
 use Rattle.rules.specs.Render.{columns, fields, line}
 use Rattle.rules.specs.Read.{Reading, accepted, refusedAt, read}

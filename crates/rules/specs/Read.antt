@@ -3,9 +3,9 @@
 use Prim.Native.Nat.{ℕ, zero, suc}
 use mathlib.Core.Bool.{Bool, true, false, not}
 use mathlib.Core.List.{List, [], _∷_, _++_}
-use lib.ListN.{length, drop}
+use lib.ListN.{drop}
 use lib.Dec.{leb, eqb}
-use Rattle.rules.specs.Fold.{_and_, _or_, pick, mem}
+use Rattle.rules.specs.Fold.{_and_, _or_, mem}
 use Rattle.rules.specs.Refusal.{Refusal, malformed, badSize, badLength, badList, badPlace, number}
 use Rattle.rules.specs.Sheet.{Book, Batch, maxBatches, goodInstruments, goodMinutes, isInstrument, head}
 use Rattle.rules.specs.Field.{Field, value, fault, field, fieldWidth}

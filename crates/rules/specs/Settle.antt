@@ -1,7 +1,6 @@
 -- Document 01, "Loads and settling": settling repeats one move until no job improves.
 -- Assumes nothing.
 use Prim.Native.Nat.{ℕ, zero, suc, _*_, _/_}
-use lib.Dec.{eqb}
 use Rattle.rules.specs.Fold.{put, sumTo, leastTo, greatestTo}
 use Rattle.rules.specs.Instance.{Instance, Assignment, n, minutesOf}
 use Rattle.rules.specs.Load.{load, elsewhere, improves}

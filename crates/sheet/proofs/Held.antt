@@ -10,7 +10,7 @@ use lib.Seq.{getD-at}
 use lib.Dec.{leb, ltb}
 use borrow.Author.Tests.{leb-true, ltb-true, ltb-false}
 use Rattle.rules.specs.Fold.{_and_, mem, every}
-use Rattle.rules.specs.Sheet.{Book, Batch, size, batch, isBatch, noBatchHere, goodInstruments, isInstrument, goodList, sound}
+use Rattle.rules.specs.Sheet.{Book, Batch, size, batch, isBatch, noBatchHere, goodInstruments, isInstrument, goodList}
 use Rattle.theory.proofs.Logic.{byTest, and-left, and-right}
 use Rattle.theory.proofs.Member.{every-at}
 use Rattle.theory.proofs.Sound.{sound-is, good-batch, good-ranged}

@@ -1,20 +1,18 @@
 -- The search over levels: it ends with level f failed, or none, and p = f + 1 kept, whose assignment is permitted, ends no later
 -- than the standing one, and has no load above p + longest.
 -- Assumes nothing.
-use Prim.Native.Nat.{ℕ, zero, suc, _+_, _-_, _*_, _/_, _≤_, _<_}
-use mathlib.Core.Path.{_≡_, refl, sym, ap, _∙_}
+use Prim.Native.Nat.{ℕ, zero, suc, _+_, _-_, _≤_, _<_}
+use mathlib.Core.Path.{_≡_, refl}
 use mathlib.Core.Bool.{Bool, true, false}
 use mathlib.Core.List.{List, []}
 use native.Mathlib.Nat.{le-refl}
 use native.Mathlib.Omega.{arith}
-use lib.Dec.{ltb}
 use borrow.Author.Tests.{ltb-true, ltb-false}
-use Rattle.rules.specs.Instance.{Instance, Assignment, n}
+use Rattle.rules.specs.Instance.{Instance, Assignment}
 use Rattle.rules.specs.Load.{load, longest, makespan}
 use Rattle.rules.specs.Trial.{ended, liftBound, pushBound}
 use Rattle.rules.specs.Group.{Tried, passed, failed, trial}
 use Rattle.rules.specs.Balance.{Search, middle, learn, open-gap, searchBy, standing, balance}
-use Rattle.theory.proofs.Logic.{byTest}
 use Rattle.theory.proofs.Valid.{Valid, Permitted}
 use Rattle.theory.proofs.Makespan.{makespan-ge}
 use Rattle.theory.proofs.Ending.{trial-lifts, trial-pushes}
@@ -22,9 +20,9 @@ use Rattle.theory.proofs.Trial.{Shows, Outcome, passes, fails, outcome,
 use Rattle.theory.proofs.Quiet.{pass-no-later}
 
 -- what the search knows of f, kept as f + 1: no trial has failed, or level f showed its group
-pub data Floor (I : Instance) : ℕ → List ℕ → Type 0 where
-  unfailed : Floor I 0 []
-  showed : (f : ℕ) (g : List ℕ) → Shows I f g → Floor I (suc f) g
+pub data Showing (I : Instance) : ℕ → List ℕ → Type 0 where
+  unfailed : Showing I 0 []
+  showed : (f : ℕ) (g : List ℕ) → Shows I f g → Showing I (suc f) g
 
 -- the counts shown with a level: none where it is the standing one, which no trial gave, and otherwise those that its trial made
 pub data Counts (I : Instance) (x : Assignment) : ℕ → ℕ → ℕ → Type 0 where
@@ -38,7 +36,7 @@ module _ (I : Instance) (x : Assignment) (v : Valid I) (w : Permitted I x) where
     pub permitted : Permitted I (s .assignment)
     pub loads : (i : ℕ) → 0 < i → i ≤ I .m → load I (s .assignment) i ≤ s .level + longest I
     pub noLater : makespan I (s .assignment) ≤ makespan I x
-    pub floor : Floor I (s .failed1) (s .group)
+    pub shown : Showing I (s .failed1) (s .group)
     pub counts : Counts I x (s .level) (s .lifts) (s .pushes)
     pub lifts : s .lifts ≤ liftBound I
     pub pushes : s .pushes ≤ pushBound I
@@ -50,7 +48,7 @@ module _ (I : Instance) (x : Assignment) (v : Valid I) (w : Permitted I x) where
     permitted = w;
     loads = λ i p q. omega (arith, makespan-ge I x i p q);
     noLater = le-refl _;
-    floor = unfailed;
+    shown = unfailed;
     counts = untried;
     lifts = omega arith;
     pushes = omega arith;
@@ -64,7 +62,7 @@ module _ (I : Instance) (x : Assignment) (v : Valid I) (w : Permitted I x) where
     permitted = trial-permitted I x v w a;
     loads = p .loads;
     noLater = pass-no-later I x v w a p;
-    floor = k .floor;
+    shown = k .shown;
     counts = made a;
     lifts = trial-lifts I x v w a;
     pushes = trial-pushes I x v w a;
@@ -75,7 +73,7 @@ module _ (I : Instance) (x : Assignment) (v : Valid I) (w : Permitted I x) where
     permitted = k .permitted;
     loads = k .loads;
     noLater = k .noLater;
-    floor = showed a g (f .shows);
+    shown = showed a g (f .shows);
     counts = k .counts;
     lifts = k .lifts;
     pushes = k .pushes;

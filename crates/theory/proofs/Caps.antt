@@ -1,19 +1,17 @@
 -- Heights stay small: a machine's at most 2m + 2, a job's at most 2m + 3, and a job that waits for a machine is low or can be
 -- pushed at once.
 -- Assumes nothing.
-use Prim.Native.Nat.{ℕ, zero, suc, _+_, _*_, _≤_, _<_}
+use Prim.Native.Nat.{ℕ, suc, _+_, _*_, _≤_, _<_}
 use mathlib.Core.Path.{_≡_, refl, sym, _∙_}
-use mathlib.Core.Bool.{Bool, true, false}
-use mathlib.Core.Logic.{_≢_}
+use mathlib.Core.Bool.{true}
 use native.Mathlib.Omega.{arith}
-use lib.ListN.{length}
-use Rattle.rules.specs.Fold.{at, put}
+use Rattle.rules.specs.Fold.{at}
 use Rattle.rules.specs.Instance.{Instance, Assignment, n, eligible}
-use Rattle.rules.specs.Trial.{State, Act, push, lift, byJob, byMachine, act, after, start, jobArc}
+use Rattle.rules.specs.Trial.{State, Act, lift, byMachine, act, after, start, jobArc}
 use Rattle.theory.proofs.Logic.{conflict}
 use Rattle.theory.proofs.Valid.{Valid, Permitted, on-machine}
 use Rattle.theory.proofs.Step.{Step, step, job-can}
-use Rattle.theory.proofs.Heights.{Shape, machineArc-eq, jobArc-mk, jobArc-eligible, unplaced-eq, unplaced-mk, put-cases, at-put-up, at-zeros}
+use Rattle.theory.proofs.Heights.{Shape, machineArc-eq, jobArc-mk, jobArc-eligible, unplaced-mk, put-cases, at-zeros}
 
 -- a job that waits: low, or with an arc's end just below it
 pub data Waits (I : Instance) (s : State) (b : ℕ) : Type 0 where

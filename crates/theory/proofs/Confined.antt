@@ -1,10 +1,10 @@
 -- Minutes confined to a group bound every permitted assignment, and a closed group confines all that is on it.
 -- Assumes nothing.
-use Prim.Native.Nat.{ℕ, zero, suc, _+_, _-_, _*_, _/_, _≤_, _<_}
-use mathlib.Core.Path.{_≡_, refl, sym, ap, _∙_}
+use Prim.Native.Nat.{ℕ, suc, _+_, _-_, _*_, _≤_, _<_}
+use mathlib.Core.Path.{_≡_, refl, sym, _∙_}
 use mathlib.Core.Bool.{Bool, true, false}
 use mathlib.Core.Logic.{_≢_}
-use mathlib.Core.List.{List, [], _∷_}
+use mathlib.Core.List.{List}
 use native.Mathlib.Nat.{le-refl, le-trans, le-of-eq, le-div-iff-mul-le, div-lt-iff-lt-mul}
 use native.Mathlib.Omega.{arith}
 use native.Mathlib.Decide.{ℕ-discrete}
@@ -12,7 +12,7 @@ use lib.ListN.{length}
 use lib.Dec.{eqb}
 use borrow.Author.Tests.{eq-eqb, ne-eqb}
 use Rattle.rules.specs.Fold.{pick, at, mem, every, sumTo}
-use Rattle.rules.specs.Instance.{Instance, Assignment, n, listOf, minutesOf, eligible}
+use Rattle.rules.specs.Instance.{Instance, Assignment, n, listOf, minutesOf}
 use Rattle.rules.specs.Load.{load, makespan}
 use Rattle.rules.specs.LowerBound.{within, confined, share, ceilDiv}
 use Rattle.theory.proofs.Logic.{byTest}

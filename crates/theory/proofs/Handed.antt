@@ -1,24 +1,21 @@
 -- A machine's push and what the job then does, as one: the job goes to the least machine that it may run on.
 -- Assumes nothing.
-use Prim.Native.Nat.{ℕ, zero, suc, _+_, _*_, _≤_, _<_}
+use Prim.Native.Nat.{ℕ, zero, suc, _+_, _≤_, _<_}
 use mathlib.Core.Path.{_≡_, refl, sym, ap, _∙_}
-use mathlib.Core.Bool.{Bool, true, false}
+use mathlib.Core.Bool.{true}
 use mathlib.Core.Logic.{_≢_}
 use mathlib.Core.List.{List}
 use native.Mathlib.Omega.{arith}
 use native.Mathlib.Decide.{ℕ-discrete}
-use native.Mathlib.Numerals.{add-one}
-use lib.ListN.{length, set, getD}
 use lib.Seq.{set-set, set-getD}
 use lib.Dec.{eqb}
-use borrow.Author.Tests.{eqb-true, eqb-false, eq-eqb, ne-eqb}
+use borrow.Author.Tests.{eq-eqb, ne-eqb}
 use Rattle.rules.specs.Fold.{_and_, pick, at, put, firstTo}
-use Rattle.rules.specs.Instance.{Instance, Assignment, n, eligible}
-use Rattle.rules.specs.Trial.{State, push, lift, rest, byJob, byMachine, act, actMachine, after, pushed, machineArc, someUnderloaded, underloaded}
-use Rattle.theory.proofs.Logic.{byTest, and-left, and-right}
+use Rattle.rules.specs.Instance.{Instance, n, eligible}
+use Rattle.rules.specs.Trial.{State, push, lift, byJob, byMachine, act, actMachine, after, pushed, machineArc, someUnderloaded, underloaded}
 use Rattle.theory.proofs.View.{First, first, Least, least}
 use Rattle.theory.proofs.Fold.{at-put-same, at-put-other}
-use Rattle.theory.proofs.Heights.{Shape, shape-step, machineArc-eq}
+use Rattle.theory.proofs.Heights.{Shape, shape-step}
 use Rattle.theory.proofs.Underloaded.{Runnable, off-underloaded}
 use Rattle.theory.proofs.Iterate.{Leads, here, leads-by}
 use Rattle.theory.proofs.Turn.{able, Placed, nextOff, lowestOn, leastFor, Waiting, act-placed, machine-pushes, machine-lifts, job-pushes, job-lifts}
@@ -45,8 +42,8 @@ handed s b j = record {
 }
 
 -- the state after machine i is lifted over the lowest job on it
-abbrev pub raised : State → ℕ → ℕ → State
-raised s i h = record {
+abbrev pub liftTo : State → ℕ → ℕ → State
+liftTo s i h = record {
   assignment = s .assignment;
   machineHeights = put (s .machineHeights) i (suc h);
   jobHeights = s .jobHeights;
@@ -95,9 +92,9 @@ module _ (I : Instance) (a : ℕ) (s : State) (v : Shape I s) (r : Runnable I) (
         from (First.found j l q z) = q
 
     -- no job stands just below machine i + 1: it is lifted
-    pub raise-leads : nextOff I s (suc i) ≡ 0 → Leads I a s (raised s (suc i) (lowestOn I s (suc i)))
+    pub lift-to-leads : nextOff I s (suc i) ≡ 0 → Leads I a s (liftTo s (suc i) (lowestOn I s (suc i)))
     unfolding actMachine
-    raise-leads z =
+    lift-to-leads z =
         leads-by I a (byMachine (suc i) (lift (suc (lowestOn I s (suc i)))))
         (act-placed I a s v h t ∙ (rw (e, machine-lifts I a s v (suc i) (omega arith) able-first z)))
         here

@@ -1,24 +1,23 @@
 -- Heights in a trial: they never fall, a job is at most one higher than any machine it may run on, and a machine at most one
 -- higher than any job on it. Every step keeps this.
 -- Assumes nothing.
-use Prim.Native.Nat.{ℕ, zero, suc, _+_, _*_, _≤_, _<_}
+use Prim.Native.Nat.{ℕ, zero, suc, _≤_, _<_}
 use mathlib.Core.Path.{_≡_, refl, sym, ap, _∙_}
-use mathlib.Core.Bool.{Bool, true, false, not}
+use mathlib.Core.Bool.{true, not}
 use mathlib.Core.Logic.{_≢_}
 use mathlib.Core.List.{List, [], _∷_}
 use native.Mathlib.Nat.{le-refl, le-step}
 use native.Mathlib.Omega.{arith}
 use native.Mathlib.Decide.{ℕ-discrete}
 use lib.ListN.{length, getD, set, replicate, length-replicate}
-use lib.Dec.{eqb}
-use borrow.Author.Tests.{eqb-true, eqb-false, eq-eqb, ne-eqb, not-true}
+use borrow.Author.Tests.{eqb-true, eq-eqb, ne-eqb}
 use Rattle.rules.specs.Fold.{_and_, at, put}
 use Rattle.rules.specs.Instance.{Instance, Assignment, n, eligible}
 use Rattle.rules.specs.Load.{elsewhere}
 use Rattle.rules.specs.Trial.{State, Act, act, after, start, unplaced, jobArc, machineArc}
-use Rattle.theory.proofs.Logic.{and-left, and-right, and-mk}
+use Rattle.theory.proofs.Logic.{and-left, and-mk}
 use Rattle.theory.proofs.Fold.{length-put, at-put-same, at-put-other}
-use Rattle.theory.proofs.Valid.{Valid, Permitted}
+use Rattle.theory.proofs.Valid.{Permitted}
 use Rattle.theory.proofs.Step.{Step, step}
 
 -- ---- arcs, as facts

@@ -1,7 +1,6 @@
 -- The lifts of a trial: at most m(2m+1) + n(2m+2) (source document 000, Lemma 3.1). Each is paid for by a height that grows.
 -- Assumes nothing.
-use Prim.Native.Nat.{ℕ, zero, suc, _+_, _*_, _≤_, _<_, min}
-use mathlib.Core.Path.{_≡_, refl}
+use Prim.Native.Nat.{ℕ, suc, _+_, _*_, _≤_, min}
 use native.Mathlib.Nat.{le-step, le-trans}
 use native.Mathlib.Omega.{arith}
 use Rattle.rules.specs.Fold.{at, put, sumTo}

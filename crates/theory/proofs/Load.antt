@@ -1,13 +1,11 @@
 -- What one job put elsewhere does to the loads.
 -- Assumes nothing.
-use Prim.Native.Nat.{ℕ, zero, suc, _+_, _-_, _*_, _≤_, _<_, zero-le, suc-le-suc}
-use mathlib.Core.Path.{_≡_, refl, sym, ap, ap₂, _∙_}
-use mathlib.Core.Bool.{Bool, true, false}
-use mathlib.Core.List.{List, [], _∷_}
+use Prim.Native.Nat.{ℕ, _+_, _-_, _≤_, _<_}
+use mathlib.Core.Path.{_≡_, ap, _∙_}
 use native.Mathlib.Omega.{arith}
 use lib.ListN.{length}
 use lib.Dec.{eqb}
-use Rattle.rules.specs.Fold.{pick, at, put, sumTo}
+use Rattle.rules.specs.Fold.{pick, at, put}
 use Rattle.rules.specs.Instance.{Instance, Assignment, n, minutesOf}
 use Rattle.rules.specs.Load.{load}
 use Rattle.theory.proofs.Fold.{at-put-same, at-put-other, sumTo-one}

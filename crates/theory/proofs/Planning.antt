@@ -1,8 +1,8 @@
 -- Planning, from a permitted assignment: the new one is permitted, settled and no later, and on an instance with a job it is within
 -- longest − 1 of every permitted assignment and of the lower bound, which has its witness.
 -- Assumes nothing.
-use Prim.Native.Nat.{ℕ, zero, suc, _+_, _*_, _≤_, _<_}
-use mathlib.Core.Path.{_≡_, refl, sym, ap, _∙_}
+use Prim.Native.Nat.{ℕ, suc, _+_, _*_, _≤_, _<_}
+use mathlib.Core.Path.{_≡_, refl, ap, _∙_}
 use mathlib.Core.Bool.{Bool, true, false}
 use mathlib.Core.List.{List, [], _∷_}
 use native.Mathlib.Nat.{le-refl, le-trans}
@@ -12,20 +12,20 @@ use lib.Dec.{ltb, eqb}
 use borrow.Author.Tests.{eq-eqb}
 use Rattle.rules.specs.Fold.{_or_, most, anyTo}
 use Rattle.rules.specs.Instance.{Instance, Assignment, n, minutesOf}
-use Rattle.rules.specs.Load.{load, longest, makespan, equilibrium}
+use Rattle.rules.specs.Load.{longest, makespan, equilibrium}
 use Rattle.rules.specs.Trial.{liftBound, pushBound}
-use Rattle.rules.specs.Settle.{settle, squares}
-use Rattle.rules.specs.Balance.{Search, balance}
+use Rattle.rules.specs.Settle.{squares}
+use Rattle.rules.specs.Balance.{balance}
 use Rattle.rules.specs.LowerBound.{share, confined, lowerBound, isShare, witnessed}
 use Rattle.rules.specs.Plan.{plan}
-use Rattle.theory.proofs.Logic.{byTest, or-left, or-right}
+use Rattle.theory.proofs.Logic.{or-left, or-right}
 use Rattle.theory.proofs.View.{any-at, most-left, most-right}
 use Rattle.theory.proofs.Valid.{Valid, Permitted}
 use Rattle.theory.proofs.Makespan.{makespan-le, longest-some, longest-makespan}
 use Rattle.theory.proofs.Settling.{settle-permitted, settle-equilibrium, settle-moves, settle-no-later}
 use Rattle.theory.proofs.Confined.{ceil-gt, share-makespan}
 use Rattle.theory.proofs.Trial.{Shows, shows-late}
-use Rattle.theory.proofs.Balancing.{Floor, unfailed, showed, Counts, Found, balance-found}
+use Rattle.theory.proofs.Balancing.{Showing, unfailed, showed, Counts, Found, balance-found}
 
 -- ---- the lower bound
 
@@ -113,9 +113,9 @@ module _ (I : Instance) (x : Assignment) (v : Valid I) (w : Permitted I x) where
   plan-loads = le-trans plan-balanced (makespan-le I (balance I x .assignment) _ (found .kept .loads))
 
   -- the level and the group reported: no trial failed and the level is 0, or the level below failed with the group
-  pub plan-floor : Floor I (plan I x .level) (plan I x .group)
+  pub plan-showing : Showing I (plan I x .level) (plan I x .group)
   unfolding plan
-  plan-floor = rw (← found .closed) (found .kept .floor)
+  plan-showing = rw (← found .closed) (found .kept .shown)
 
   plan-bound : plan I x .lowerBound ≡ lowerBound I (plan I x .group)
   unfolding plan
@@ -128,47 +128,47 @@ module _ (I : Instance) (x : Assignment) (v : Valid I) (w : Permitted I x) where
     longest-pos = let r = longest-some I some in omega (arith, v .minutes (r .0) (r .1) (r .2), r .3)
 
     -- every permitted assignment ends at level + 1 or later, unless the level is 0
-    late : {p : ℕ} {g : List ℕ} → Floor I p g → (y : Assignment) → Permitted I y → suc p ≤ makespan I y
+    late : {p : ℕ} {g : List ℕ} → Showing I p g → (y : Assignment) → Permitted I y → suc p ≤ makespan I y
     late unfailed y z = omega (arith, longest-makespan v z, longest-pos)
     late (showed f g h) y z = omega (arith, shows-late I f g h longest-pos y z)
 
     pub plan-close : (y : Assignment) → Permitted I y → plan I x .makespan + 1 ≤ makespan I y + longest I
-    plan-close y z = omega (arith, plan-loads, late plan-floor y z)
+    plan-close y z = omega (arith, plan-loads, late plan-showing y z)
 
     -- the lower bound is one
-    below : {p : ℕ} {g : List ℕ} → Floor I p g → (y : Assignment) → Permitted I y → lowerBound I g ≤ makespan I y
+    below : {p : ℕ} {g : List ℕ} → Showing I p g → (y : Assignment) → Permitted I y → lowerBound I g ≤ makespan I y
     below unfailed y z = bound-le I [] _ (longest-makespan v z) (λ h. absurd (omega arith))
     below (showed f g h) y z = bound-le I g _ (longest-makespan v z) (λ p. share-makespan I y g z (h .group) p)
 
     pub plan-bound-below : (y : Assignment) → Permitted I y → plan I x .lowerBound ≤ makespan I y
-    plan-bound-below y z = rw plan-bound (below plan-floor y z)
+    plan-bound-below y z = rw plan-bound (below plan-showing y z)
 
     -- a failed level's group shows 2 more than it
     share-gt : (f : ℕ) (g : List ℕ) → Shows I f g → suc f < share I g
     unfolding share
     share-gt f g h = ceil-gt (confined I g) (suc f) (length g) (h .some) (omega (arith, h .confines, longest-pos))
 
-    above : {p : ℕ} {g : List ℕ} → Floor I p g → suc p ≤ lowerBound I g
+    above : {p : ℕ} {g : List ℕ} → Showing I p g → suc p ≤ lowerBound I g
     above unfailed = omega (arith, bound-longest I [], longest-pos)
     above (showed f g h) = omega (arith, bound-share I g (h .some), share-gt f g h)
 
     pub plan-near-bound : plan I x .makespan + 1 ≤ plan I x .lowerBound + longest I
-    plan-near-bound = rw plan-bound (omega (arith, plan-loads, above plan-floor))
+    plan-near-bound = rw plan-bound (omega (arith, plan-loads, above plan-showing))
 
     pub plan-witness : witnessed I (plan I x .group) (plan I x .lowerBound) ≡ true
     plan-witness = rw plan-bound (bound-witness I (plan I x .group) some)
 
     -- some trial passed: the level kept is below the standing makespan
     pub plan-level : plan I x .level < makespan I x
-    plan-level = late plan-floor x w
+    plan-level = late plan-showing x w
 
     -- where no trial failed, the makespan, the lower bound and the longest length are one number
-    unfailed-exact : {p : ℕ} {g : List ℕ} → Floor I p g → g ≡ [] → (p ≡ 0) × (lowerBound I g ≡ longest I)
+    unfailed-exact : {p : ℕ} {g : List ℕ} → Showing I p g → g ≡ [] → (p ≡ 0) × (lowerBound I g ≡ longest I)
     unfolding lowerBound
     unfailed-exact unfailed e = (refl, refl)
     unfailed-exact (showed f g h) e = absurd (omega (arith, h .some, ap length e))
 
     pub plan-unfailed : plan I x .group ≡ [] → (plan I x .makespan ≡ longest I) × (plan I x .lowerBound ≡ longest I)
     plan-unfailed e =
-        let r = unfailed-exact plan-floor e in
+        let r = unfailed-exact plan-showing e in
         (omega (arith, plan-loads, r .0, longest-makespan v plan-permitted, plan-makespan), plan-bound ∙ r .1)

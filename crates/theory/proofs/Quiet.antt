@@ -1,16 +1,15 @@
 -- Where nothing is overloaded at the start, a trial makes no step. So no pass ends later than the standing assignment.
 -- Assumes nothing.
-use Prim.Native.Nat.{ℕ, zero, suc, _+_, _≤_, _<_}
-use mathlib.Core.Path.{_≡_, refl, sym, ap, _∙_}
-use mathlib.Core.Bool.{Bool, true, false}
+use Prim.Native.Nat.{ℕ, suc, _+_, _≤_, _<_}
+use mathlib.Core.Path.{_≡_, refl}
 use native.Mathlib.Nat.{le-refl}
 use native.Mathlib.Omega.{arith}
 use native.Mathlib.Decide.{decLe}
 use Rattle.rules.specs.Fold.{at}
-use Rattle.rules.specs.Instance.{Instance, Assignment, n}
+use Rattle.rules.specs.Instance.{Instance, Assignment}
 use Rattle.rules.specs.Load.{load, longest, makespan}
 use Rattle.rules.specs.Trial.{State, Act, rest, act, start, ended, stepsBy, overloaded}
-use Rattle.rules.specs.Group.{Tried, passed, trial, verdict}
+use Rattle.rules.specs.Group.{Tried, passed, trial}
 use Rattle.theory.proofs.View.{Some, here}
 use Rattle.theory.proofs.Valid.{Valid, Permitted, on-machine}
 use Rattle.theory.proofs.Makespan.{makespan-ge, makespan-le}
@@ -18,7 +17,7 @@ use Rattle.theory.proofs.Step.{Step, step}
 use Rattle.theory.proofs.Heights.{unplaced-eq}
 use Rattle.theory.proofs.Steps.{stays}
 use Rattle.theory.proofs.Underloaded.{overloaded-gt}
-use Rattle.theory.proofs.Trial.{Outcome, passes, fails, outcome, Passes, Fails, Shows, trial-permitted}
+use Rattle.theory.proofs.Trial.{Outcome, passes, fails, outcome, Passes}
 
 module _ (I : Instance) (x : Assignment) (v : Valid I) (w : Permitted I x) (a : ℕ) where
   module _ (calm : (i : ℕ) → 0 < i → i ≤ I .m → load I x i ≤ a + longest I) where

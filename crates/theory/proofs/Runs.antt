@@ -1,26 +1,24 @@
 -- Lists of calls on the book (document 01, "Runs"): the book stays sound along every list, and each trial and each planning in it
 -- keeps what document 01 claims of it.
 -- Assumes nothing.
-use Prim.Native.Nat.{ℕ, _+_, _*_, _≤_, _<_}
-use mathlib.Core.Path.{_≡_, refl, sym, ap, _∙_}
-use mathlib.Core.Bool.{Bool, true, false}
+use Prim.Native.Nat.{ℕ, _+_, _≤_, _<_}
+use mathlib.Core.Path.{_≡_, refl, _∙_}
+use mathlib.Core.Bool.{true}
 use mathlib.Core.List.{List, [], _∷_}
-use native.Mathlib.Omega.{arith}
-use lib.ListN.{length}
 use Rattle.rules.specs.Sheet.{Book, sound}
 use Rattle.rules.specs.Read.{read, accepted}
 use Rattle.rules.specs.Edit.{Edit, Edited, refused, edited, edit}
-use Rattle.rules.specs.Instance.{Instance, Assignment, instance, places, n}
+use Rattle.rules.specs.Instance.{Assignment, instance, places, n}
 use Rattle.rules.specs.Load.{longest, makespan, equilibrium, review}
-use Rattle.rules.specs.Trial.{State, ended, liftBound, pushBound}
+use Rattle.rules.specs.Trial.{ended, liftBound, pushBound}
 use Rattle.rules.specs.Group.{trial}
 use Rattle.rules.specs.LowerBound.{witnessed}
-use Rattle.rules.specs.Run.{Call, editing, reviewing, trying, planning, next, bookAfter, editBook, planBook, withPlaces}
+use Rattle.rules.specs.Run.{Call, editing, reviewing, trying, planning, next, bookAfter, editBook, planBook}
 use Rattle.theory.proofs.Valid.{Valid, Permitted}
 use Rattle.theory.proofs.Sound.{read-sound, edit-sound, sound-valid, sound-permitted, placed-sound, placed-places, placed-instance, jobs-count}
 use Rattle.theory.proofs.Review.{Improves, review-settled, settled-review, settled-none, none-settled}
 use Rattle.theory.proofs.Ending.{trial-lifts, trial-pushes}
-use Rattle.theory.proofs.Trial.{Outcome, outcome, trial-permitted}
+use Rattle.theory.proofs.Trial.{Outcome, outcome}
 use Rattle.theory.proofs.Balancing.{Counts}
 use Rattle.theory.proofs.Planning.{plan-permitted, plan-settled, plan-counts, plan-makespan, plan-no-later, plan-close, plan-bound-below, plan-near-bound, plan-witness}
 

@@ -1,19 +1,14 @@
 -- What a step of a trial can be, as data to match on.
 -- Assumes nothing.
-use Prim.Native.Nat.{ℕ, zero, suc, _+_, _*_, _≤_, _<_}
-use mathlib.Core.Path.{_≡_, refl, sym, ap, ap₂, _∙_}
+use Prim.Native.Nat.{ℕ, suc, _*_, _≤_, _<_}
+use mathlib.Core.Path.{_≡_, refl}
 use mathlib.Core.Bool.{Bool, true, false}
-use mathlib.Core.Logic.{_≢_}
-use mathlib.Core.List.{List}
-use native.Mathlib.Nat.{le-refl}
 use native.Mathlib.Omega.{arith}
-use native.Mathlib.Decide.{ℕ-discrete}
-use lib.ListN.{length}
-use lib.Dec.{ltb, leb, eqb}
-use borrow.Author.Tests.{ltb-true, ltb-false, leb-true, leb-false, eqb-true, eq-eqb}
-use Rattle.rules.specs.Fold.{_and_, pick, at, put, firstTo, leastTo}
+use lib.Dec.{leb, eqb}
+use borrow.Author.Tests.{leb-true, leb-false, eqb-true, eq-eqb}
+use Rattle.rules.specs.Fold.{_and_, at}
 use Rattle.rules.specs.Instance.{Instance, n}
-use Rattle.rules.specs.Trial.{State, Deed, nothing, push, lift, can, liftOver, pushOr, deed, jobDeed, machineDeed, Act, rest, byJob, byMachine, actMachine, actJob, act, someUnderloaded, after, unplaced, overloaded, jobArc, machineArc}
+use Rattle.rules.specs.Trial.{State, Deed, nothing, push, lift, can, liftOver, pushOr, deed, jobDeed, machineDeed, Act, rest, byJob, byMachine, actMachine, actJob, act, someUnderloaded, unplaced, overloaded, jobArc, machineArc}
 use Rattle.theory.proofs.Logic.{byTest, conflict, and-left, and-right, and-mk}
 use Rattle.theory.proofs.View.{None, First, first, Least, least}
 

@@ -1,32 +1,30 @@
 -- One trial at a level, from a permitted assignment: what a pass and what a failure show (source document 000, Lemma 3.2).
 -- Assumes nothing.
-use Prim.Native.Nat.{ℕ, zero, suc, _+_, _*_, _≤_, _<_}
-use mathlib.Core.Path.{_≡_, refl, sym, ap, _∙_}
-use mathlib.Core.Bool.{Bool, true, false}
+use Prim.Native.Nat.{ℕ, suc, _+_, _*_, _≤_, _<_}
+use mathlib.Core.Path.{_≡_, refl}
+use mathlib.Core.Bool.{true, false}
 use mathlib.Core.List.{List}
 use native.Mathlib.Nat.{le-trans, mul-le-mul-right}
 use native.Mathlib.Omega.{arith}
 use native.Mathlib.Decide.{decLe}
 use lib.ListN.{length}
-use lib.Dec.{ltb, eqb}
 use borrow.Author.Tests.{ltb-false}
-use Rattle.rules.specs.Fold.{_or_, pick, at, mem, anyTo, firstTo, thoseTo}
-use Rattle.rules.specs.Instance.{Instance, Assignment, n, eligible}
+use Rattle.rules.specs.Fold.{_or_, at, mem, anyTo, thoseTo}
+use Rattle.rules.specs.Instance.{Instance, Assignment, n}
 use Rattle.rules.specs.Load.{load, longest, makespan}
-use Rattle.rules.specs.Trial.{State, Act, rest, byJob, byMachine, act, after, start, ended, stepsBy, liftBound, pushBound, overloaded, unplaced, someUnderloaded, can, machineDeed}
-use Rattle.rules.specs.Group.{overflows, group, closure, reachBy, Tried, passed, failed, verdict, trial}
+use Rattle.rules.specs.Trial.{State, rest, start, ended, liftBound, pushBound, overloaded, unplaced, someUnderloaded, can, machineDeed}
+use Rattle.rules.specs.Group.{overflows, group, closure, Tried, passed, failed, trial}
 use Rattle.rules.specs.LowerBound.{confined}
 use Rattle.theory.proofs.Logic.{byTest, conflict, or-none, or-cases}
 use Rattle.theory.proofs.View.{None, First, first, Some, here, any-some, any-none}
-use Rattle.theory.proofs.Valid.{Valid, Permitted, eligible-job}
+use Rattle.theory.proofs.Valid.{Valid, Permitted}
 use Rattle.theory.proofs.Those.{those-range, those-mem}
-use Rattle.theory.proofs.Makespan.{makespan-ge, makespan-le, longest-some}
 use Rattle.theory.proofs.Step.{Step, step}
 use Rattle.theory.proofs.Heights.{Shape, unplaced-eq, shape-step, shape-start}
 use Rattle.theory.proofs.Steps.{run-keeps}
 use Rattle.theory.proofs.Ending.{trial-rests}
 use Rattle.theory.proofs.Underloaded.{Heavy, Hand, whole, one, Loaded, loaded-step, loaded-start, runnable, Runnable, unplaced-can, overloaded-can, overloaded-gt, none-underloaded}
-use Rattle.theory.proofs.Closure.{IsGroup, those, group-range, group-length, count, count-some, Closed, closure-group, closure-holds, closure-closed}
+use Rattle.theory.proofs.Closure.{IsGroup, those, group-range, group-length, count-some, Closed, closure-group, closure-holds, closure-closed}
 use Rattle.theory.proofs.Tall.{closure-tall}
 use Rattle.theory.proofs.Confined.{group-jobs, closed-confines, heavy-group, confined-makespan}
 

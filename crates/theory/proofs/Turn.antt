@@ -1,28 +1,22 @@
 -- What acts in a trial comes to two things: a machine hands a job over to the least machine that the job may run on, which is
 -- two or three steps, or it is lifted.
 -- Assumes nothing.
-use Prim.Native.Nat.{ℕ, zero, suc, _+_, _*_, _≤_, _<_}
+use Prim.Native.Nat.{ℕ, zero, suc, _*_, _≤_, _<_}
 use mathlib.Core.Path.{_≡_, refl, sym, ap, _∙_}
-use mathlib.Core.Bool.{Bool, true, false, not}
+use mathlib.Core.Bool.{Bool, true, false}
 use mathlib.Core.Logic.{_≢_}
-use mathlib.Core.List.{List}
 use native.Mathlib.Nat.{le-refl}
 use native.Mathlib.Omega.{arith}
-use native.Mathlib.Decide.{ℕ-discrete}
-use lib.ListN.{length, set, getD}
-use lib.Seq.{set-set, set-getD}
 use lib.Dec.{leb, eqb}
 use borrow.Author.Tests.{eqb-true, eq-eqb, ne-eqb, le-leb, leb-true}
-use Rattle.rules.specs.Fold.{_and_, pick, at, put, firstTo, leastTo, lesser}
-use Rattle.rules.specs.Instance.{Instance, Assignment, n, eligible}
+use Rattle.rules.specs.Fold.{_and_, at, firstTo, leastTo}
+use Rattle.rules.specs.Instance.{Instance, n, eligible}
 use Rattle.rules.specs.Load.{elsewhere}
-use Rattle.rules.specs.Trial.{State, Deed, nothing, push, lift, can, liftOver, pushOr, deed, Act, rest, byJob, byMachine, act, actJob, actMachine, after, pushed, jobDeed, machineDeed, jobArc, machineArc, overloaded, unplaced, underloaded, someUnderloaded}
+use Rattle.rules.specs.Trial.{State, push, lift, can, liftOver, pushOr, deed, rest, byJob, act, actJob, actMachine, jobDeed, machineDeed, jobArc, machineArc, overloaded, unplaced, someUnderloaded}
 use Rattle.theory.proofs.Logic.{byTest, conflict, and-left, and-right, and-mk}
-use Rattle.theory.proofs.View.{None, First, first, first-miss, first-hit, Some, here, Least, least}
-use Rattle.theory.proofs.Fold.{at-put-same, at-put-other, length-put}
-use Rattle.theory.proofs.Heights.{Shape, shape-step, machineArc-eq, jobArc-mk, unplaced-eq, unplaced-mk, put-cases}
-use Rattle.theory.proofs.Underloaded.{Runnable, Hand, whole, one, unplaced-can, overloaded-can, off-underloaded}
-use Rattle.theory.proofs.Iterate.{Leads, leads-by}
+use Rattle.theory.proofs.View.{first-miss, first-hit, Least, least}
+use Rattle.theory.proofs.Heights.{Shape, unplaced-mk}
+use Rattle.theory.proofs.Underloaded.{Runnable, unplaced-can, overloaded-can}
 
 -- ---- searches over tests that agree
 

@@ -1,24 +1,23 @@
 -- Two more invariants of a trial: a machine that was ever lifted is not underloaded, and at most one job is without a place, while
 -- some machine is underloaded. So at the end every job has its place.
 -- Assumes nothing.
-use Prim.Native.Nat.{ℕ, zero, suc, _+_, _*_, _≤_, _<_}
-use mathlib.Core.Path.{_≡_, refl, sym, ap, _∙_}
+use Prim.Native.Nat.{ℕ, suc, _+_, _*_, _≤_, _<_}
+use mathlib.Core.Path.{_≡_, refl, sym, _∙_}
 use mathlib.Core.Bool.{Bool, true, false}
 use mathlib.Core.Logic.{_≢_}
-use mathlib.Core.List.{List}
 use native.Mathlib.Nat.{le-trans}
 use native.Mathlib.Omega.{arith}
 use native.Mathlib.Decide.{ℕ-discrete}
 use lib.ListN.{length}
 use lib.Dec.{leb, eqb}
-use borrow.Author.Tests.{eqb-true, eqb-false, eq-eqb, ne-eqb, ltb-true, leb-true, leb-false, le-leb, not-true}
-use Rattle.rules.specs.Fold.{_and_, pick, at, put, sumTo, anyTo}
+use borrow.Author.Tests.{eqb-true, eq-eqb, ne-eqb, ltb-true, leb-true, leb-false, le-leb}
+use Rattle.rules.specs.Fold.{_and_, pick, at, put, anyTo}
 use Rattle.rules.specs.Instance.{Instance, Assignment, n, eligible, minutesOf}
-use Rattle.rules.specs.Load.{load, longest, elsewhere}
-use Rattle.rules.specs.Trial.{State, can, Act, act, after, pushed, overloaded, underloaded, someUnderloaded, jobDeed, machineDeed, jobArc, start}
-use Rattle.theory.proofs.Logic.{conflict, and-left, and-right, and-mk}
+use Rattle.rules.specs.Load.{load, longest}
+use Rattle.rules.specs.Trial.{State, can, Act, act, after, pushed, overloaded, underloaded, someUnderloaded, jobDeed, machineDeed, start}
+use Rattle.theory.proofs.Logic.{conflict, and-mk}
 use Rattle.theory.proofs.Fold.{at-put-same, at-put-other}
-use Rattle.theory.proofs.View.{None, Some, here, any-some, any-at, any-none, sum-some}
+use Rattle.theory.proofs.View.{Some, here, any-some, any-at, any-none, sum-some}
 use Rattle.theory.proofs.Valid.{Valid, Permitted, on-machine}
 use Rattle.theory.proofs.Load.{part, load-put}
 use Rattle.theory.proofs.Makespan.{longest-ge}

@@ -1,14 +1,14 @@
 -- What the theorems ask of an instance and of an assignment. A sound book gives both (Sound).
 -- Assumes nothing.
 use Prim.Native.Nat.{ℕ, zero, suc, _≤_, _<_}
-use mathlib.Core.Path.{_≡_, refl, sym, _∙_}
-use mathlib.Core.Bool.{Bool, true, false}
+use mathlib.Core.Path.{_≡_, refl}
+use mathlib.Core.Bool.{true}
 use mathlib.Core.List.{List, [], _∷_}
 use native.Mathlib.Omega.{arith}
 use lib.ListN.{length, getD}
 use lib.Dec.{eqb}
 use borrow.Author.Tests.{eqb-true, eq-eqb}
-use Rattle.rules.specs.Fold.{_and_, at, mem, allTo}
+use Rattle.rules.specs.Fold.{_and_, at, mem}
 use Rattle.rules.specs.Instance.{Instance, Assignment, Job, noJob, n, minutesOf, eligible}
 use Rattle.rules.specs.Load.{permitted}
 use Rattle.theory.proofs.Logic.{conflict, and-left, and-right, and-mk}

@@ -1,27 +1,26 @@
 -- A machine whose turn has come to its end: there is a job on it, and each stands level with it or just above it.
 -- Assumes nothing.
-use Prim.Native.Nat.{ℕ, zero, suc, _+_, _*_, _≤_, _<_}
-use mathlib.Core.Path.{_≡_, refl, sym, ap, _∙_}
-use mathlib.Core.Bool.{Bool, true, false}
+use Prim.Native.Nat.{ℕ, zero, suc, _≤_, _<_}
+use mathlib.Core.Path.{_≡_, sym, _∙_}
 use mathlib.Core.List.{List}
 use native.Mathlib.Omega.{arith}
 use native.Mathlib.Decide.{ℕ-discrete}
-use lib.ListN.{length, getD, take}
-use lib.Dec.{ltb, leb, eqb}
+use lib.ListN.{getD, take}
+use lib.Dec.{eqb}
 use borrow.Author.Tests.{ltb-true, eq-eqb, eqb-true}
-use Rattle.rules.specs.Fold.{_and_, pick, at, firstTo, sumTo}
+use Rattle.rules.specs.Fold.{_and_, pick, at}
 use Rattle.rules.specs.Instance.{Instance, n, minutesOf}
 use Rattle.rules.specs.Load.{load}
 use Rattle.theory.proofs.Logic.{byTest, conflict, and-left, and-mk}
 use Rattle.theory.proofs.View.{None, First, first, sum-some}
-use Rattle.theory.proofs.Turn.{able, nextOff}
+use Rattle.theory.proofs.Turn.{nextOff}
 use Rattle.theory.proofs.Handed.{able-first}
 use Rattle.trials.specs.declared.State.{State}
 use Rattle.trials.specs.Track.{stateOf, Setup, Turn}
 use Rattle.trials.proofs.Take.{at-take}
 use Rattle.trials.proofs.Handing.{machine-in}
 use Rattle.trials.proofs.Going.{able-by}
-use Rattle.trials.proofs.Raising.{next-by}
+use Rattle.trials.proofs.Rising.{next-by}
 
 module _ {I : Instance} {a limit m c : ℕ} {lengths sets : List ℕ} (u : Setup I a limit m c lengths sets) (t : State) (i : ℕ)
     (k : Turn I a (suc i) t) where

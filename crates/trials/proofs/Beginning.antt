@@ -1,15 +1,14 @@
 -- All machines at height 0: the levels of a trial's start.
 -- Assumes nothing.
-use Prim.Native.Nat.{ℕ, zero, suc, _≤_, _<_, _^_}
-use mathlib.Core.Path.{_≡_, refl, sym, ap, _∙_}
+use Prim.Native.Nat.{ℕ, suc, _<_}
+use mathlib.Core.Path.{_≡_, refl, sym, _∙_}
 use mathlib.Core.Bool.{Bool, true, false}
-use mathlib.Core.List.{List, [], _∷_}
 use native.Mathlib.Omega.{arith}
 use native.Mathlib.Decide.{ℕ-discrete}
-use lib.ListN.{length, getD, set, replicate, length-set, length-replicate}
-use lib.Seq.{getD-set-same, getD-set-other}
-use lib.Dec.{leb, eqb, lit<}
-use borrow.Author.Tests.{eq-eqb, ne-eqb}
+use lib.ListN.{set, replicate, length-set, length-replicate}
+use lib.Seq.{getD-set-other}
+use lib.Dec.{leb, eqb}
+use borrow.Author.Tests.{ne-eqb}
 use Rattle.rules.specs.Fold.{_and_, at}
 use Rattle.theory.proofs.Heights.{at-zeros}
 use Rattle.arrays.specs.Sets.{SetOf, Levels}

@@ -24,7 +24,7 @@ use Rattle.trials.specs.Reads.{Reads}
 use Rattle.trials.specs.Track.{stateOf, Giving}
 use Rattle.trials.proofs.Take.{at-take}
 use Rattle.arrays.proofs.Levels.{Above, meets-at, lowest-least}
-use Rattle.trials.proofs.Raising.{least-agree}
+use Rattle.trials.proofs.Rising.{least-agree}
 use Rattle.trials.proofs.Handing.{OnIt, on-it, machine-in}
 
 -- ---- numbers stay small

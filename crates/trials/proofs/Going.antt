@@ -1,23 +1,20 @@
 -- After a hand-over it is still the same machine's turn, where its load, the receiver and the underloaded ones say so.
 -- Assumes nothing.
-use Prim.Native.Nat.{ℕ, zero, suc, _+_, _-_, _*_, _≤_, _<_}
+use Prim.Native.Nat.{ℕ, zero, suc, _-_, _*_, _≤_, _<_}
 use mathlib.Core.Path.{_≡_, refl, sym, ap, subst, _∙_}
 use mathlib.Core.Bool.{Bool, true, false}
-use mathlib.Core.Logic.{_≢_, _⊎_, inl, inr, ⊎-elim}
+use mathlib.Core.Logic.{_≢_, _⊎_, ⊎-elim}
 use mathlib.Core.List.{List}
 use native.Mathlib.Nat.{le-refl}
 use native.Mathlib.Omega.{arith}
 use native.Mathlib.Decide.{ℕ-discrete}
-use lib.ListN.{length, take}
 use lib.Dec.{ltb, leb}
 use borrow.Author.Tests.{ltb-true, lt-ltb, leb-true, le-leb}
-use Rattle.rules.specs.Fold.{_and_, at, put, firstTo, anyTo}
-use Rattle.rules.specs.Instance.{Instance, n, minutesOf}
-use Rattle.rules.specs.Load.{load, longest}
+use Rattle.rules.specs.Fold.{_and_, at, firstTo, anyTo}
+use Rattle.rules.specs.Instance.{Instance, n}
 use Rattle.rules.specs.Trial.{someUnderloaded, underloaded, overloaded}
 use Rattle.theory.proofs.Logic.{byTest, conflict, and-left, and-right, and-mk}
-use Rattle.theory.proofs.View.{None, First, first, first-hit, Some, here, any-some, any-at}
-use Rattle.theory.proofs.Fold.{at-put-same, at-put-other, length-put}
+use Rattle.theory.proofs.View.{First, first, first-hit, Some, here, any-some, any-at}
 use Rattle.theory.proofs.Turn.{able}
 use Rattle.trials.specs.declared.State.{State}
 use Rattle.trials.specs.Track.{stateOf, Setup, Tracks, Turn}

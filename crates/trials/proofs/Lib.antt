@@ -8,7 +8,7 @@ pub mod Handing
 pub mod Lifting
 pub mod Moving
 pub mod Near
-pub mod Raising
+pub mod Rising
 pub mod Reaching
 pub mod Running
 pub mod Shifted

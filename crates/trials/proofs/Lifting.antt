@@ -8,7 +8,7 @@ use mathlib.Core.List.{List}
 use native.Mathlib.Numerals.{add-one}
 use native.Mathlib.Omega.{arith}
 use native.Mathlib.Decide.{ℕ-discrete}
-use lib.ListN.{length, take, getD, set}
+use lib.ListN.{length, getD, set}
 use lib.Seq.{getD-set-same, getD-set-other}
 use lib.Dec.{eqb, ltb, leb}
 use borrow.Author.Tests.{leb-true, le-leb}
@@ -21,13 +21,13 @@ use Rattle.theory.proofs.Iterate.{Leads, leads-keeps}
 use Rattle.theory.proofs.Turn.{able, first-ext, nextOff, lowestOn, machine-low}
 use Rattle.theory.proofs.Handed.{able-first}
 use Rattle.trials.specs.declared.State.{State}
-use Rattle.arrays.specs.Sets.{Levels, Lifted}
+use Rattle.arrays.specs.Sets.{Lifted}
 use Rattle.trials.specs.Track.{stateOf, Setup, Tracks, Turn, Rose}
-use Rattle.trials.proofs.Take.{at-take, take-put, take-long}
+use Rattle.trials.proofs.Take.{at-take, take-long}
 use Rattle.arrays.proofs.Levels.{lifted-levels}
 use Rattle.trials.proofs.Handing.{machine-in}
 use Rattle.trials.proofs.Going.{able-by, some-by}
-use Rattle.trials.proofs.Raising.{raiseOn, first-by, lowest-by, raise-on, raise-tracks}
+use Rattle.trials.proofs.Rising.{liftOn, first-by, lowest-by, lift-on-leads, lift-on-tracks}
 
 module _ {I : Instance} {a limit m c : ℕ} {lengths sets : List ℕ} (u : Setup I a limit m c lengths sets) (t : State) (i : ℕ)
     (k : Turn I a (suc i) t) (z : nextOff I (stateOf (I .m) (n I) t) (suc i) ≡ 0) (low : ℕ)
@@ -60,7 +60,7 @@ module _ {I : Instance} {a limit m c : ℕ} {lengths sets : List ℕ} (u : Setup
 
   pub low-small : low ≤ 2 * m + 1
   low-small =
-      let q = leads-keeps (Counted I) (counted-step I a) (raise-on I a t u i low (t .levels) k z low-is) (k .tracks .counted) in
+      let q = leads-keeps (Counted I) (counted-step I a) (lift-on-leads I a t u i low (t .levels) k z low-is) (k .tracks .counted) in
       omega (
         arith,
         q .caps .machineCap (suc i),
@@ -82,7 +82,7 @@ module _ {I : Instance} {a limit m c : ℕ} {lengths sets : List ℕ} (u : Setup
     resting = false;
   }
 
-  same : (levels : List ℕ) → lifted levels ≡ raiseOn t i low levels
+  same : (levels : List ℕ) → lifted levels ≡ liftOn t i low levels
   same levels = λ j. record {
     machines = set (t .machines) i (add-one low j);
     jobs = t .jobs;
@@ -96,12 +96,12 @@ module _ {I : Instance} {a limit m c : ℕ} {lengths sets : List ℕ} (u : Setup
 
   pub lift-leads : (levels : List ℕ) → Leads I a (stateOf (I .m) (n I) t) (stateOf (I .m) (n I) (lifted levels))
   lift-leads levels =
-      subst (λ (x : State). Leads I a (stateOf (I .m) (n I) t) (stateOf (I .m) (n I) x)) (sym (same levels)) (raise-on I a t u i low levels k z low-is)
+      subst (λ (x : State). Leads I a (stateOf (I .m) (n I) t) (stateOf (I .m) (n I) x)) (sym (same levels)) (lift-on-leads I a t u i low levels k z low-is)
 
   pub lift-tracks : (levels : List ℕ) → Lifted (t .levels) levels (suc i) (getD (t .machines) i 0) (low + 1) → Tracks I a (lifted levels)
   lift-tracks levels f =
       subst (λ (x : State). Tracks I a x) (sym (same levels))
-      (raise-tracks I a t u i low levels k z low-is
+      (lift-on-tracks I a t u i low levels k z low-is
       (lifted-levels (I .m) (suc i) (getD (t .machines) i 0) (suc low) (t .levels) levels (t .machines) (k .tracks .levels) (omega arith) inside
       (omega (arith, machines-long, inside)) refl (λ w. omega (arith, under)) (rw (add-one low) at f)))
 

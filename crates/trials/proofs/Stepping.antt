@@ -1,7 +1,7 @@
 -- A turn, put together: rest, or hand-overs and lifts of one machine until its turn is over.
 -- Assumes nothing.
-use Prim.Native.Nat.{ℕ, zero, suc, _+_, _-_, _*_, _≤_, _<_}
-use mathlib.Core.Path.{_≡_, refl, sym, ap, subst, _∙_}
+use Prim.Native.Nat.{ℕ, suc, _-_, _*_, _≤_, _<_}
+use mathlib.Core.Path.{_≡_, refl, sym, _∙_}
 use mathlib.Core.Bool.{Bool, true, false, true≢false}
 use mathlib.Core.List.{List}
 use native.Mathlib.Omega.{arith}
@@ -14,8 +14,8 @@ use Rattle.theory.proofs.View.{First, first}
 use Rattle.rules.specs.Trial.{act, rest}
 use Rattle.theory.proofs.Iterate.{Leads, here, leads-trans, steps-lead, leads-steps}
 use Rattle.trials.specs.declared.State.{State}
-use Rattle.trials.specs.Track.{stateOf, arrays, restOf, Setup, Tracks, Turn, Went, Rose, Stepping, Stepped}
-use Rattle.trials.proofs.Raising.{rests-dark, rests-stuck, turns}
+use Rattle.trials.specs.Track.{stateOf, arrays, restOf, Tracks, Turn, Went, Rose, Stepping, Stepped}
+use Rattle.trials.proofs.Rising.{rests-dark, rests-stuck, turns}
 
 -- the arrays of a state, whether it rests or not
 abbrev pub plain : State → State

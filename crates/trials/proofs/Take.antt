@@ -1,10 +1,10 @@
 -- Entries of a list's front part, by number.
 -- Assumes nothing.
-use Prim.Native.Nat.{ℕ, zero, suc, _≤_, _<_, min}
+use Prim.Native.Nat.{ℕ, zero, suc, _≤_}
 use mathlib.Core.Path.{_≡_, refl}
 use mathlib.Core.List.{List}
 use native.Mathlib.Omega.{arith}
-use lib.ListN.{length, take, getD, set, length-take}
+use lib.ListN.{length, take, length-take}
 use lib.Seq.{getD-take, take-set-lt}
 use Rattle.rules.specs.Fold.{at, put}
 

@@ -1,24 +1,22 @@
 -- What a trial leaves on the arrays is what the rules' trial gives.
 -- Assumes nothing.
-use Prim.Native.Nat.{ℕ, zero, suc, _+_, _-_, _*_, _≤_, _<_}
-use mathlib.Core.Path.{_≡_, refl, sym, ap, subst, _∙_}
-use mathlib.Core.Bool.{Bool, true, false, true≢false}
+use Prim.Native.Nat.{ℕ, suc, _+_, _-_, _≤_, _<_}
+use mathlib.Core.Path.{_≡_, sym, ap, subst, _∙_}
+use mathlib.Core.Bool.{true, false, true≢false}
 use mathlib.Core.List.{List}
 use native.Mathlib.Omega.{arith}
-use lib.ListN.{length, take, getD}
+use lib.ListN.{take, getD}
 use lib.Dec.{ltb, leb}
 use borrow.Author.Tests.{leb-true, leb-false}
 use Rattle.rules.specs.Fold.{at, mem, firstTo, anyTo, thoseTo}
 use Rattle.rules.specs.Instance.{Instance, Assignment, n}
 use Rattle.rules.specs.Load.{load, longest}
-use Rattle.rules.specs.Trial.{ended}
 use Rattle.rules.specs.Trial as T
 use Rattle.rules.specs.Group.{group, closure, passed, failed, trial}
 use Rattle.theory.proofs.Logic.{byTest}
-use Rattle.theory.proofs.View.{First, first}
 use Rattle.theory.proofs.Those.{those-mem, those-range}
 use Rattle.theory.proofs.Valid.{Permitted, on-machine}
-use Rattle.theory.proofs.Closure.{IsGroup, those, closure-group}
+use Rattle.theory.proofs.Closure.{those, closure-group}
 use Rattle.theory.proofs.Trial.{trial-permitted}
 use Rattle.trials.specs.declared.State.{State}
 use Rattle.arrays.specs.Sets.{SetOf}

@@ -23,7 +23,7 @@ use Rattle.trials.specs.Near.{Near}
 use Rattle.trials.specs.Track.{stateOf, Giving, Onward, Passing, Went, Wording}
 use Rattle.trials.proofs.Take.{at-take, take-long}
 use Rattle.trials.proofs.Handing.{machine-in, on-it}
-use Rattle.trials.proofs.Raising.{next-by}
+use Rattle.trials.proofs.Rising.{next-by}
 use Rattle.trials.proofs.Near.{near-first, near-moved}
 
 -- ---- parts of a turn, one after the other

@@ -1,33 +1,30 @@
 -- A trial's end on the arrays, and what the rules make of it.
 -- Assumes nothing.
-use Prim.Native.Nat.{ℕ, zero, suc, _+_, _*_, _≤_, _<_}
+use Prim.Native.Nat.{ℕ, zero, suc, _+_, _≤_, _<_}
 use mathlib.Core.Path.{_≡_, refl, sym, ap, subst, _∙_}
 use mathlib.Core.Bool.{Bool, true, false}
-use mathlib.Core.List.{List, [], _∷_}
+use mathlib.Core.List.{List, _∷_}
 use native.Mathlib.Omega.{arith}
-use lib.ListN.{length, take, replicate}
-use lib.Dec.{ltb, leb, eqb}
+use lib.ListN.{take, replicate}
+use lib.Dec.{ltb, leb}
 use borrow.Author.Tests.{ne-eqb}
-use Rattle.rules.specs.Fold.{_or_, pick, at, firstTo, anyTo, thoseTo}
+use Rattle.rules.specs.Fold.{_or_, at, firstTo, anyTo, thoseTo}
 use Rattle.rules.specs.Instance.{Instance, Assignment, n}
 use Rattle.rules.specs.Load.{load, longest}
 use Rattle.rules.specs.Trial as T
-use Rattle.rules.specs.Trial.{overloaded, unplaced, someUnderloaded, ended}
-use Rattle.rules.specs.Group.{overflows, group, closure, Tried, passed, failed, verdict, trial}
+use Rattle.rules.specs.Trial.{overloaded, unplaced, ended}
+use Rattle.rules.specs.Group.{overflows, group, closure, passed, failed, trial}
 use Rattle.theory.proofs.Logic.{or-skip, byTest, conflict}
 use Rattle.theory.proofs.View.{First, first, Some, here, any-some, any-at, None}
-use Rattle.theory.proofs.Valid.{Valid, Permitted}
-use Rattle.theory.proofs.Heights.{shape-start, at-zeros}
 use Rattle.theory.proofs.Ending.{Counted, counted-start}
 use Rattle.theory.proofs.Underloaded.{runnable}
 use Rattle.theory.proofs.Iterate.{Leads, leads-end}
-use Rattle.theory.proofs.Trial.{trial-placed, trial-permitted}
 use Rattle.theory.proofs.Turn.{first-ext, Placed}
 use Rattle.trials.specs.declared.State.{State}
 use Rattle.trials.specs.Reads.{Reads}
-use Rattle.trials.specs.Track.{stateOf, Setup, Tracks, Stepping, Ended}
+use Rattle.trials.specs.Track.{stateOf, Setup, Stepping, Ended}
 use Rattle.trials.specs.Attempt.{Fresh, Standing}
-use Rattle.trials.proofs.Going.{any-ext, some-by}
+use Rattle.trials.proofs.Going.{some-by}
 
 -- ---- a search that finds nothing, or something
 

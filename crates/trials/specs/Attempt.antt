@@ -4,10 +4,10 @@ use Prim.Native.Nat.{ℕ, _≤_, _<_}
 use mathlib.Core.Path.{_≡_}
 use mathlib.Core.Bool.{Bool, true, false}
 use mathlib.Core.List.{List}
-use lib.ListN.{length, take, drop, replicate}
+use lib.ListN.{take, replicate}
 use Rattle.rules.specs.Fold.{at, mem}
 use Rattle.rules.specs.Instance.{Instance, Assignment}
-use Rattle.rules.specs.Load.{load, longest}
+use Rattle.rules.specs.Load.{load}
 use Rattle.rules.specs.Group.{trial, passed, failed}
 use Rattle.theory.proofs.Valid.{Permitted}
 use Rattle.theory.proofs.Closure.{IsGroup}

@@ -3,7 +3,6 @@
 use Prim.Native.Nat.{_≤_, _-_}
 use mathlib.Core.Path.{_≡_}
 use native.Mathlib.Omega.{arith}
-use borrow.Author.Needs.{needs}
 use Rattle.arrays.specs.Sets.{SetsOf}
 use Rattle.arrays.proofs.Filling.{filled-none, filled-one}
 use Rattle.arrays.proofs.setup.masks_of.Statement.{statement}

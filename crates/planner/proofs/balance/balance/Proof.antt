@@ -16,13 +16,13 @@ use Rattle.planner.proofs.balance.balance.Statement.{statement}
 use Rattle.planner.proofs.balance.balance.Tie as tie
 
 abbrev Inv-loop : tie.InvT-loop
-Inv-loop loads minutes masks m n most finish places s₀ rows s =
+Inv-loop loads minutes masks m n most highest places s₀ rows s =
     (s .failed1 ≤ s .level) × (s .level ≤ 288000)
-    × ((I : Instance) → Standing I m n minutes masks places loads → most ≡ longest I → finish ≡ makespan I (take n places)
+    × ((I : Instance) → Standing I m n minutes masks places loads → most ≡ longest I → highest ≡ makespan I (take n places)
     → Seeking I m n (take n places) s)
 
 abbrev μ-loop : tie.MeasureT-loop
-μ-loop loads minutes masks m n most finish places s₀ rows s = s .level - s .failed1
+μ-loop loads minutes masks m n most highest places s₀ rows s = s .level - s .failed1
 
 slice-aggregate-rows-of : tie.Need-slice-aggregate-rows-of Inv-loop μ-loop
 slice-aggregate-rows-of c = search needs

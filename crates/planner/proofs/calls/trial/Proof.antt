@@ -1,10 +1,9 @@
 -- The trial over the sheet's arrays is the rules'.
 -- Assumes nothing.
-use Prim.Native.Nat.{_≤_}
-use mathlib.Core.Path.{_≡_, _∙_}
+use mathlib.Core.Path.{_∙_}
 use native.Mathlib.Omega.{arith}
 use borrow.Author.Needs.{needs}
-use Rattle.rules.specs.Load.{total, longest}
+use Rattle.rules.specs.Load.{total}
 use Rattle.trials.proofs.Trying.{places-in}
 use Rattle.planner.proofs.Shows.{total-is, longest-is, total-few, longest-few, trial-refused, trial-passed, trial-failed}
 use Rattle.planner.proofs.calls.trial.Statement.{statement}

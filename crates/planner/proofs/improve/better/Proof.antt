@@ -1,9 +1,9 @@
--- The floor, or the lightest machine, keeps the job where it is; or it goes to the lightest.
+-- The bottom, or the lightest machine, keeps the job where it is; or it goes to the lightest.
 -- Assumes nothing.
 use Prim.Native.Nat.{_-_}
 use native.Mathlib.Omega.{arith}
 use Rattle.arrays.proofs.Entries.{at-index}
-use Rattle.planner.proofs.Gains.{gains-none}
+use Rattle.planner.proofs.Improves.{improves-none}
 use Rattle.planner.proofs.Lightest.{lightest-stays, lightest-goes}
 use borrow.Author.Needs.{needs}
 use Rattle.planner.proofs.improve.better.Statement.{statement}
@@ -30,7 +30,7 @@ returns c =
     let a = st .args in
     let e = at-index (a .loads .now) (a .place) (st .pre .2) in
     record {
-      stays = λ z. gains-none (a .loads .now) (a .mask) (a .place) (a .w) (a .m) (λ i l u. omega (arith, e, c .if1 .taken, st .pre .5 i l u));
+      stays = λ z. improves-none (a .loads .now) (a .mask) (a .place) (a .w) (a .m) (λ i l u. omega (arith, e, c .if1 .taken, st .pre .5 i l u));
       goes = λ z. absurd (omega arith);
     }
 

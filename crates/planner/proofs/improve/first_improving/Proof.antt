@@ -6,14 +6,14 @@ use native.Mathlib.Numerals.{add-one}
 use native.Mathlib.Omega.{arith}
 use Rattle.rules.specs.Fold.{at}
 use Rattle.theory.proofs.View.{None, none-zero, none-more, first-hit, first-miss}
-use Rattle.planner.specs.Settling.{gains}
+use Rattle.planner.specs.Settling.{improvesIn}
 use Rattle.planner.proofs.Placing.{first-is, known-long, known-place}
 use borrow.Author.Needs.{needs}
 use Rattle.planner.proofs.improve.first_improving.Statement.{statement}
 use Rattle.planner.proofs.improve.first_improving.Tie as tie
 
 abbrev Inv-loop : tie.InvT-loop
-Inv-loop loads places minutes masks n m b₀ b = (b ≤ n) × None b (λ j. gains loads (at masks j) (at places j) (at minutes j) m)
+Inv-loop loads places minutes masks n m b₀ b = (b ≤ n) × None b (λ j. improvesIn loads (at masks j) (at places j) (at minutes j) m)
 
 abbrev μ-loop : tie.MeasureT-loop
 μ-loop loads places minutes masks n m b₀ b = n - b

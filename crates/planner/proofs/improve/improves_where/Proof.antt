@@ -7,7 +7,7 @@ use lib.Dec.{ltb}
 use Rattle.rules.specs.Fold.{_and_, at, anyTo}
 use Rattle.arrays.specs.Sets.{has}
 use Rattle.arrays.proofs.Entries.{at-index}
-use Rattle.planner.proofs.Gains.{gains-below, gains-none}
+use Rattle.planner.proofs.Improves.{improves-below, improves-none}
 use borrow.Author.Needs.{needs}
 use Rattle.planner.proofs.improve.improves_where.Statement.{statement}
 use Rattle.planner.proofs.improve.improves_where.Tie as tie
@@ -25,7 +25,7 @@ returns : tie.Need-returns
 returns c =
     let a = c .before .before .before .args in
     let e = at-index (a .loads .now) (a .place) (omega arith) in
-    sym (gains-none (a .loads .now) (a .mask) (a .place) (a .w) (a .m) (λ i l u. omega arith))
+    sym (improves-none (a .loads .now) (a .mask) (a .place) (a .w) (a .m) (λ i l u. omega arith))
 
 sub-some-below : tie.Need-sub-some-below
 sub-some-below c = search needs
@@ -39,7 +39,7 @@ returns-2 c =
     let e = at-index (a .loads .now) (a .place) (omega arith) in
     c .some-below .ensures
     ∙ ap (λ (x : ℕ). anyTo (a .m) (λ i. ltb (at (a .loads .now) i) (x - a .w) and has (a .mask) i)) (sym e)
-    ∙ gains-below (a .loads .now) (a .mask) (a .place) (a .w) (a .m) (omega arith)
+    ∙ improves-below (a .loads .now) (a .mask) (a .place) (a .w) (a .m) (omega arith)
 
 pub improves-where-spec : {M : Type 1} → statement M
 improves-where-spec =

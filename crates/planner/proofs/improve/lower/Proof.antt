@@ -1,7 +1,7 @@
 -- By which way the test went.
 -- Assumes nothing.
 use borrow.Author.Tests.{lt-ltb, le-ltb}
-use Rattle.arrays.specs.Floor.{less}
+use Rattle.arrays.specs.Less.{less}
 use Rattle.planner.proofs.improve.lower.Statement.{statement}
 use Rattle.planner.proofs.improve.lower.Tie as tie
 

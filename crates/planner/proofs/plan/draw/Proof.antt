@@ -1,10 +1,9 @@
 -- The figures of the search, of settling after it, and of the group.
 -- Assumes nothing.
-use Prim.Native.Nat.{_≤_}
 use lib.ListN.{length}
-use mathlib.Core.Path.{_≡_, sym, _∙_}
+use mathlib.Core.Path.{_≡_, _∙_}
 use native.Mathlib.Omega.{arith}
-use Rattle.planner.proofs.Drawing.{most-is, finish-is, most-few, finish-few, sought-placing, sought-known, drawn}
+use Rattle.planner.proofs.Drawing.{most-is, makespan-is, most-few, makespan-few, sought-placing, sought-known, drawn}
 use borrow.Author.Needs.{needs}
 use Rattle.planner.proofs.plan.draw.Statement.{statement}
 use Rattle.planner.proofs.plan.draw.Tie as tie
@@ -23,16 +22,16 @@ balance-requires c κs =
     let p = c .before .before .before .before .before .pre in
     let st = p .0 .1 in
     let most = c .before .before .largest .ensures ∙ most-is st in
-    let finish = c .largest-load .ensures ∙ finish-is st in
-    ((p .0 .0, st, most, finish), (p .1 .0, p .1 .1, omega (arith, most-few st), omega (arith, finish-few st)))
+    let highest = c .largest-load .ensures ∙ makespan-is st in
+    ((p .0 .0, st, most, highest), (p .1 .0, p .1 .1, omega (arith, most-few st), omega (arith, makespan-few st)))
 
 settle-requires : tie.Need-settle-requires
 settle-requires c κs =
     let p = c .before .before .before .before .before .before .before .before .pre in
     let st = p .0 .1 in
     let most = c .before .before .before .before .before .largest .ensures ∙ most-is st in
-    let finish = c .before .before .before .largest-load .ensures ∙ finish-is st in
-    sought-known st (c .before .before .balance .ensures (p .0 .0) st most finish) (p .1 .0) (p .1 .1) (let z : length (c .before .before .balance .result .loads) ≡ 24 = search needs in omega (arith, st .reads .few))
+    let highest = c .before .before .before .largest-load .ensures ∙ makespan-is st in
+    sought-known st (c .before .before .balance .ensures (p .0 .0) st most highest) (p .1 .0) (p .1 .1) (let z : length (c .before .before .balance .result .loads) ≡ 24 = search needs in omega (arith, st .reads .few))
 
 members-of-requires : tie.Need-members-of-requires
 members-of-requires c κs = c .before .before .before .before .before .before .before .before .before .pre .0 .1 .reads .few
@@ -54,16 +53,16 @@ largest-load-requires-2 c κs =
     let p = c .before .before .before .before .before .before .before .before .before .before .before .before .before .before .before .before .pre in
     let st = p .0 .1 in
     let most = c .before .before .before .before .before .before .before .before .before .before .before .before .before .largest .ensures ∙ most-is st in
-    let finish = c .before .before .before .before .before .before .before .before .before .before .before .largest-load .ensures ∙ finish-is st in
-    let found = c .before .before .before .before .before .before .before .before .before .before .balance .ensures (p .0 .0) st most finish in
+    let highest = c .before .before .before .before .before .before .before .before .before .before .before .largest-load .ensures ∙ makespan-is st in
+    let found = c .before .before .before .before .before .before .before .before .before .before .balance .ensures (p .0 .0) st most highest in
     let k = sought-placing st found (let y = c .before .before .before .before .before .before .before .before .left in let x = c .before .before .before .before .before .before .before .before .before .before .balance in let z : length (c .before .before .before .before .before .before .before .before .before .before .balance .result .loads) ≡ 24 = search needs in omega (arith, st .reads .few)) in
     c .before .before .before .before .before .before .before .settle .ensures (p .0 .0) (st .reads) k .placing .long
 
 returns : tie.Need-returns
 returns c = λ I st.
     let most = c .before .before .before .before .before .before .before .before .before .before .before .before .before .before .largest .ensures ∙ most-is st in
-    let finish = c .before .before .before .before .before .before .before .before .before .before .before .before .largest-load .ensures ∙ finish-is st in
-    let found = c .before .before .before .before .before .before .before .before .before .before .before .balance .ensures I st most finish in
+    let highest = c .before .before .before .before .before .before .before .before .before .before .before .before .largest-load .ensures ∙ makespan-is st in
+    let found = c .before .before .before .before .before .before .before .before .before .before .before .balance .ensures I st most highest in
     let k = sought-placing st found (let y = c .before .before .before .before .before .before .before .before .before .left in let x = c .before .before .before .before .before .before .before .before .before .before .before .balance in let z : length (c .before .before .before .before .before .before .before .before .before .before .before .balance .result .loads) ≡ 24 = search needs in omega (arith, st .reads .few)) in
     let g = c .before .before .before .before .before .before .before .members-of .ensures in
     drawn st found (c .before .before .before .before .before .before .before .before .settle .ensures I (st .reads) k) g

@@ -11,10 +11,10 @@ use Rattle.planner.proofs.suspects.among.Statement.{statement}
 use Rattle.planner.proofs.suspects.among.Tie as tie
 
 abbrev Inv-loop : tie.InvT-loop
-Inv-loop loads places minutes masks short some₀ n m floor c found₀ q₀ some found q = (q ≤ 4) × (length some ≡ length some₀) × Suspects loads places minutes masks m n some × Longest loads places minutes masks short m n c (64 * q) (found .job) (found .to) (found .minutes)
+Inv-loop loads places minutes masks short some₀ n m bottom c found₀ q₀ some found q = (q ≤ 4) × (length some ≡ length some₀) × Suspects loads places minutes masks m n some × Longest loads places minutes masks short m n c (64 * q) (found .job) (found .to) (found .minutes)
 
 abbrev μ-loop : tie.MeasureT-loop
-μ-loop loads places minutes masks short some₀ n m floor c found₀ q₀ some found q = 4 - q
+μ-loop loads places minutes masks short some₀ n m bottom c found₀ q₀ some found q = 4 - q
 
 loop-holds : tie.Need-loop-holds Inv-loop μ-loop
 unfolding greatestTo

@@ -7,17 +7,17 @@ use native.Mathlib.Omega.{arith}
 use lib.ListN.{length}
 use borrow.Author.Needs.{needs}
 use Rattle.arrays.specs.Rows.{inRow}
-use Rattle.planner.specs.Suspects.{gainer, Suspects}
+use Rattle.planner.specs.Suspects.{improver, Suspects}
 use Rattle.planner.proofs.Movers.{longest-out, all-in, all-in-last, longest-none}
 use Rattle.planner.proofs.Placing.{known-takes}
 use Rattle.planner.proofs.suspects.mover.Statement.{statement}
 use Rattle.planner.proofs.suspects.mover.Tie as tie
 
 abbrev Inv-loop : tie.InvT-loop
-Inv-loop loads places minutes masks short some₀ n m floor c₀ some c = (c ≤ 23) × (length some ≡ length some₀) × Suspects loads places minutes masks m n some × ((b : ℕ) → b < n → gainer loads places minutes masks m n (suc b) ≡ true → inRow short c b ≡ true)
+Inv-loop loads places minutes masks short some₀ n m bottom c₀ some c = (c ≤ 23) × (length some ≡ length some₀) × Suspects loads places minutes masks m n some × ((b : ℕ) → b < n → improver loads places minutes masks m n (suc b) ≡ true → inRow short c b ≡ true)
 
 abbrev μ-loop : tie.MeasureT-loop
-μ-loop loads places minutes masks short some₀ n m floor c₀ some c = c
+μ-loop loads places minutes masks short some₀ n m bottom c₀ some c = c
 
 least-load-requires : tie.Need-least-load-requires Inv-loop μ-loop
 least-load-requires c κs = c .before .before .before .before .before .before .pre .0 .placing .long

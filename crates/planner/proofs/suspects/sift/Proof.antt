@@ -5,16 +5,16 @@ use native.Mathlib.Numerals.{add-one}
 use native.Mathlib.Omega.{arith}
 use lib.Count.{trailingZeros, trailing-le}
 use Rattle.planner.proofs.Placing.{known-long, known-in, known-takes, known-small}
-use Rattle.planner.proofs.Sifting.{Sift, sift-start, sift-end, job-in, turn-short, turn-gains, turn-stays}
+use Rattle.planner.proofs.Sifting.{Sift, sift-start, sift-end, job-in, turn-short, turn-improves, turn-stays}
 use borrow.Author.Needs.{needs}
 use Rattle.planner.proofs.suspects.sift.Statement.{statement}
 use Rattle.planner.proofs.suspects.sift.Tie as tie
 
 abbrev Inv-loop : tie.InvT-loop
-Inv-loop loads places minutes masks short some n m floor c q all x₀ kept₀ best₀ x kept best = Sift loads places minutes masks short m n c q some x kept (best .job) (best .to) (best .minutes)
+Inv-loop loads places minutes masks short some n m bottom c q all x₀ kept₀ best₀ x kept best = Sift loads places minutes masks short m n c q some x kept (best .job) (best .to) (best .minutes)
 
 abbrev μ-loop : tie.MeasureT-loop
-μ-loop loads places minutes masks short some n m floor c q all x₀ kept₀ best₀ x kept best = x
+μ-loop loads places minutes masks short some n m bottom c q all x₀ kept₀ best₀ x kept best = x
 
 mul-all : tie.Need-mul-all Inv-loop μ-loop
 mul-all c = omega (arith, c .before .before .before .before .before .before .pre .0 .5)
@@ -127,7 +127,7 @@ loop-again c =
     let a = st .args in
     let s = at-loop .loop .inv in
     let z = c .before .better .ensures .goes (omega (arith, c .if2 .taken)) in
-    turn-gains (a .loads .now) (a .places .now) (a .minutes .now) (a .masks .now) (a .short .now) (a .m) (a .n) (a .c) (a .q) s (c .before .before .before .before .before .before .before .before .loop-test .taken) (c .before .before .before .before .before .before .before .lowest-bit .result) (c .before .before .before .before .before .before .before .lowest-bit .ensures) _ (c .before .better .result) (add-one (64 * a .q + trailingZeros 64 (at-loop .loop .x))) (c .before .before .before .before .if1 .taken) (z .0) (z .1)
+    turn-improves (a .loads .now) (a .places .now) (a .minutes .now) (a .masks .now) (a .short .now) (a .m) (a .n) (a .c) (a .q) s (c .before .before .before .before .before .before .before .before .loop-test .taken) (c .before .before .before .before .before .before .before .lowest-bit .result) (c .before .before .before .before .before .before .before .lowest-bit .ensures) _ (c .before .better .result) (add-one (64 * a .q + trailingZeros 64 (at-loop .loop .x))) (c .before .before .before .before .if1 .taken) (z .0) (z .1)
 
 loop-less-2 : tie.Need-loop-less-2 Inv-loop μ-loop
 loop-less-2 c = omega (arith, c .before .before .before .before .before .before .before .lowest-bit .ensures .some, c .before .before .before .before .before .before .before .lowest-bit .ensures .within)

@@ -38,8 +38,8 @@ weighs i j w = part (eqb i j)
     part true = omega arith
     part false = omega arith
 
-raise : (up : ℕ) → pick (eqb up 0) 0 1 ≤ 1
-raise up = part (eqb up 0)
+one-lift : (up : ℕ) → pick (eqb up 0) 0 1 ≤ 1
+one-lift up = part (eqb up 0)
   where
     part : (t : Bool) → pick t 0 1 ≤ 1
     part true = omega arith
@@ -130,7 +130,7 @@ rise-requires : tie.Need-rise-requires
 rise-requires c κs = search needs
 
 add-t34 : tie.Need-add-t34
-add-t34 c = omega (arith, c .rise .ensures, lifts-small (c .before .before .before .before .before), raise (c .before .before .before .before .before .goal .result .up))
+add-t34 c = omega (arith, c .rise .ensures, lifts-small (c .before .before .before .before .before), one-lift (c .before .before .before .before .before .goal .result .up))
 
 shared-slice-read-goes-on : tie.Need-shared-slice-read-goes-on
 shared-slice-read-goes-on c =

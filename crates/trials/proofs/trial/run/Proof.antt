@@ -1,9 +1,6 @@
 -- Steps until nothing acts: the counts grow with each, and stay within the bounds.
 -- Assumes nothing.
-use Prim.Native.Nat.{suc, _≤_, _<_}
-use mathlib.Core.Path.{_≡_, refl, sym, _∙_}
-use native.Mathlib.Omega.{arith}
-use lib.ListN.{length}
+use mathlib.Core.Path.{sym}
 use borrow.Author.Needs.{needs}
 use borrow.Author.Tests.{not-true, not-false}
 use Rattle.rules.specs.Instance.{Instance}

@@ -1,16 +1,15 @@
 -- A trial: from its first state to where nothing acts, and what that says.
 -- Assumes nothing.
-use Prim.Native.Nat.{ℕ, _+_, _≤_, _<_}
-use mathlib.Core.Path.{_≡_, refl, sym, ap, subst, _∙_}
-use mathlib.Core.Bool.{Bool, true, false}
+use Prim.Native.Nat.{ℕ, _+_, _≤_}
+use mathlib.Core.Path.{_≡_, sym, _∙_}
+use mathlib.Core.Bool.{Bool}
 use native.Mathlib.Omega.{arith}
-use lib.ListN.{length, take}
-use lib.Dec.{ltb}
-use Rattle.rules.specs.Fold.{at, firstTo}
+use lib.ListN.{length}
+use Rattle.rules.specs.Fold.{firstTo}
 use Rattle.rules.specs.Instance.{Instance, n}
 use Rattle.rules.specs.Load.{longest}
 use Rattle.theory.proofs.View.{First, first}
-use Rattle.trials.specs.Track.{Stepping, Ended}
+use Rattle.trials.specs.Track.{Ended}
 use Rattle.trials.specs.Attempt.{Standing}
 use Rattle.trials.proofs.Take.{take-long}
 use Rattle.trials.proofs.Verdict.{begins}

@@ -1,21 +1,21 @@
 -- The machine rises to just above the lowest jobs on it.
 -- Assumes nothing.
 use Prim.Native.Nat.{ℕ, suc, _+_, _-_, _*_, _≤_, _<_}
-use mathlib.Core.Path.{_≡_, refl, sym, ap, subst, _∙_}
+use mathlib.Core.Path.{_≡_, sym}
 use mathlib.Core.List.{List}
 use native.Mathlib.Numerals.{add-one}
 use native.Mathlib.Omega.{arith}
-use lib.ListN.{length, getD, set}
+use lib.ListN.{getD, set}
 use lib.Seq.{getD-set-same}
 use lib.Dec.{eqb}
 use borrow.Author.Needs.{needs}
 use Rattle.rules.specs.Fold.{pick, at, leastTo}
-use Rattle.rules.specs.Instance.{Instance, n}
+use Rattle.rules.specs.Instance.{Instance}
 use Rattle.trials.specs.declared.State.{State}
 use Rattle.arrays.specs.Sets.{Lifted}
 use Rattle.arrays.proofs.Levels.{levels-leveled}
 use Rattle.trials.specs.Near.{Near}
-use Rattle.trials.specs.Track.{arrays, Setup, Idle, Rose}
+use Rattle.trials.specs.Track.{arrays, Idle, Rose}
 use Rattle.trials.proofs.Handing.{machine-in}
 use Rattle.trials.proofs.Lifting.{under, low-small, lift-rose}
 use Rattle.trials.proofs.Around.{some-on, none-high, around}

@@ -1,6 +1,6 @@
 -- The rows change as a lift by one or by two has it.
 -- Assumes nothing.
-use mathlib.Core.Path.{_≡_, refl, sym, _∙_}
+use mathlib.Core.Path.{refl, sym, _∙_}
 use mathlib.Core.Bool.{true, false, true≢false}
 use borrow.Author.Needs.{needs}
 use Rattle.trials.proofs.turn.lift_rows.Statement.{statement}

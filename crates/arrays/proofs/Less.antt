@@ -6,7 +6,7 @@ use native.Mathlib.Nat.{le-refl}
 use lib.Dec.{ltb}
 use borrow.Author.Tests.{ltb-true, ltb-false}
 use Rattle.theory.proofs.Logic.{byTest}
-use Rattle.arrays.specs.Floor.{less}
+use Rattle.arrays.specs.Less.{less}
 
 pub less-left : (a b : ℕ) → less a b ≤ a
 unfolding less

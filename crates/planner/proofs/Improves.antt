@@ -13,7 +13,7 @@ use Rattle.rules.specs.Fold.{_and_, at, anyTo, greater, greatestTo}
 use Rattle.theory.proofs.Logic.{byTest}
 use Rattle.theory.proofs.View.{Greatest, greatest}
 use Rattle.arrays.specs.Sets.{has}
-use Rattle.planner.specs.Settling.{other, gainsAt, gains}
+use Rattle.planner.specs.Settling.{other, improvesInAt, improvesIn}
 use Rattle.trials.proofs.Going.{any-ext}
 use Rattle.arrays.proofs.Search.{and-no-left, and-no-right, any-miss}
 
@@ -29,9 +29,9 @@ only false = refl
 
 module _ (loads : List ℕ) (mask place w : ℕ) where
   -- below the cap the machine is another one than the job's own
-  below-gains : w < at loads place → (i : ℕ) → (ltb (at loads i) (at loads place - w) and has mask i) ≡ gainsAt loads mask place w i
-  unfolding gainsAt other
-  below-gains h i =
+  below-improves : w < at loads place → (i : ℕ) → (ltb (at loads i) (at loads place - w) and has mask i) ≡ improvesInAt loads mask place w i
+  unfolding improvesInAt other
+  below-improves h i =
       byTest (ltb (at loads i) (at loads place - w))
       (λ t.
       let l = ltb-true (at loads i) (at loads place - w) t in
@@ -41,14 +41,14 @@ module _ (loads : List ℕ) (mask place w : ℕ) where
       let l = ltb-false (at loads i) (at loads place - w) t in
       and-no-left _ _ t ∙ sym (and-no-right _ _ (le-ltb (at loads i + w) (at loads place) (omega arith))))
 
-  pub gains-below : (m : ℕ) → w < at loads place → anyTo m (λ i. ltb (at loads i) (at loads place - w) and has mask i) ≡ gains loads mask place w m
-  unfolding gains
-  gains-below m h = any-ext m _ _ (λ i l u. below-gains h i)
+  pub improves-below : (m : ℕ) → w < at loads place → anyTo m (λ i. ltb (at loads i) (at loads place - w) and has mask i) ≡ improvesIn loads mask place w m
+  unfolding improvesIn
+  improves-below m h = any-ext m _ _ (λ i l u. below-improves h i)
 
-  pub gains-none : (m : ℕ) → ((i : ℕ) → 0 < i → i ≤ m → at loads place ≤ at loads i + w) → gains loads mask place w m ≡ false
-  unfolding gains gainsAt
-  gains-none m h =
-      any-miss m (λ i. gainsAt loads mask place w i)
+  pub improves-none : (m : ℕ) → ((i : ℕ) → 0 < i → i ≤ m → at loads place ≤ at loads i + w) → improvesIn loads mask place w m ≡ false
+  unfolding improvesIn improvesInAt
+  improves-none m h =
+      any-miss m (λ i. improvesInAt loads mask place w i)
       (λ i l u. and-no-right (other mask place i) _ (le-ltb (at loads i + w) (at loads place) (h i l u)))
 
 -- ---- one more turn

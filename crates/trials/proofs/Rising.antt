@@ -7,17 +7,17 @@ use mathlib.Core.List.{List}
 use native.Mathlib.Nat.{le-refl, le-step}
 use native.Mathlib.Numerals.{add-one}
 use native.Mathlib.Omega.{arith}
-use lib.ListN.{length, take}
+use lib.ListN.{take}
 use lib.Dec.{ltb, leb, eqb}
 use Rattle.rules.specs.Fold.{_and_, at, put, firstTo, lesser, leastTo, anyTo}
-use Rattle.rules.specs.Instance.{Instance, n, eligible}
+use Rattle.rules.specs.Instance.{Instance, n}
 use Rattle.rules.specs.Trial as T
-use Rattle.rules.specs.Trial.{act, rest, machineArc, someUnderloaded}
+use Rattle.rules.specs.Trial.{act, rest, machineArc}
 use Rattle.theory.proofs.View.{Least, least}
 use Rattle.theory.proofs.Ending.{Counted, counted-step}
 use Rattle.theory.proofs.Iterate.{Leads, leads-keeps}
-use Rattle.theory.proofs.Turn.{able, first-ext, least-ext, nextOff, lowestOn, leastFor, act-none, act-dark}
-use Rattle.theory.proofs.Handed.{raised, raise-leads}
+use Rattle.theory.proofs.Turn.{able, first-ext, nextOff, lowestOn, act-none, act-dark}
+use Rattle.theory.proofs.Handed.{liftTo, lift-to-leads}
 use Rattle.trials.specs.declared.State.{State}
 use Rattle.arrays.specs.Sets.{Levels}
 use Rattle.trials.specs.Track.{stateOf, Setup, Tracks, Turn}
@@ -26,8 +26,8 @@ use Rattle.trials.proofs.Handing.{machine-in}
 use Rattle.trials.proofs.Going.{able-by, some-by}
 
 -- machine i + 1 at height h + 1, with the levels given
-abbrev pub raiseOn : State → ℕ → ℕ → List ℕ → State
-raiseOn t i h levels = record {
+abbrev pub liftOn : State → ℕ → ℕ → List ℕ → State
+liftOn t i h levels = record {
   machines = put (t .machines) (suc i) (suc h);
   jobs = t .jobs;
   places = t .places;
@@ -109,9 +109,9 @@ module _ (I : Instance) (a : ℕ) (t : State) {limit m c : ℕ} {lengths sets : 
       = least-agree (n I) _ _ _ _ (λ b b0 bn. rw (at-take (n I) (t .places) b bn)) (λ b b0 bn. sym (at-take (n I) (t .jobs) b bn)) in
       rw (← e) (sym (at-take (n I) (t .jobs) _ (least-le (n I) _ _))))
 
-  pub raise-state : (i h : ℕ) (levels : List ℕ) → i < I .m
-      → stateOf (I .m) (n I) (raiseOn t i h levels) ≡ raised (stateOf (I .m) (n I) t) (suc i) h
-  raise-state i h levels l = λ k. record {
+  pub lift-on-state : (i h : ℕ) (levels : List ℕ) → i < I .m
+      → stateOf (I .m) (n I) (liftOn t i h levels) ≡ liftTo (stateOf (I .m) (n I) t) (suc i) h
+  lift-on-state i h levels l = λ k. record {
     assignment = take (n I) (t .places);
     machineHeights = take-put (I .m) (t .machines) (suc i) (suc h) l k;
     jobHeights = take (n I) (t .jobs);
@@ -119,18 +119,18 @@ module _ (I : Instance) (a : ℕ) (t : State) {limit m c : ℕ} {lengths sets : 
     pushes = t .pushes;
   }
 
-  pub raise-on : (i h : ℕ) (levels : List ℕ) → Turn I a (suc i) t → nextOff I (stateOf (I .m) (n I) t) (suc i) ≡ 0
+  pub lift-on-leads : (i h : ℕ) (levels : List ℕ) → Turn I a (suc i) t → nextOff I (stateOf (I .m) (n I) t) (suc i) ≡ 0
       → h ≡ lowestOn I (stateOf (I .m) (n I) t) (suc i)
-      → Leads I a (stateOf (I .m) (n I) t) (stateOf (I .m) (n I) (raiseOn t i h levels))
-  raise-on i h levels k z e =
-      rw (raise-state i h levels (machine-in I a t i k), e)
-      (raise-leads I a (stateOf (I .m) (n I) t) (k .tracks .counted .shape) (u .runnable) (k .tracks .placed) (k .some) i (k .first) z)
+      → Leads I a (stateOf (I .m) (n I) t) (stateOf (I .m) (n I) (liftOn t i h levels))
+  lift-on-leads i h levels k z e =
+      rw (lift-on-state i h levels (machine-in I a t i k), e)
+      (lift-to-leads I a (stateOf (I .m) (n I) t) (k .tracks .counted .shape) (u .runnable) (k .tracks .placed) (k .some) i (k .first) z)
 
-  pub raise-tracks : (i h : ℕ) (levels : List ℕ) → Turn I a (suc i) t → nextOff I (stateOf (I .m) (n I) t) (suc i) ≡ 0
+  pub lift-on-tracks : (i h : ℕ) (levels : List ℕ) → Turn I a (suc i) t → nextOff I (stateOf (I .m) (n I) t) (suc i) ≡ 0
       → h ≡ lowestOn I (stateOf (I .m) (n I) t) (suc i) → Levels levels (put (t .machines) (suc i) (suc h)) (I .m)
-      → Tracks I a (raiseOn t i h levels)
-  raise-tracks i h levels k z e l = record {
-    counted = leads-keeps (Counted I) (counted-step I a) (raise-on i h levels k z e) (k .tracks .counted);
+      → Tracks I a (liftOn t i h levels)
+  lift-on-tracks i h levels k z e l = record {
+    counted = leads-keeps (Counted I) (counted-step I a) (lift-on-leads i h levels k z e) (k .tracks .counted);
     placed = k .tracks .placed;
     loads = k .tracks .loads;
     levels = l;
