@@ -1,4 +1,4 @@
--- The sets of short jobs: each job in the row after that of its 64ths, and then each row with what those before it have.
+-- The sets of short jobs: each job in the first row that is to have it, and then each row with what those before it have.
 -- Assumes nothing.
 use Prim.Native.Nat.{ℕ, zero, suc, _+_, _-_, _*_, _/_, _%_, _≤_, _<_}
 use mathlib.Core.Path.{_≡_, refl, sym, ap, ap₂, _∙_}

@@ -17,12 +17,12 @@ pub record Short (lengths : List ℕ) (c : ℕ) (rows : List ℕ) : Type 0 where
   pub long : length rows ≡ 96
   pub each : (r b : ℕ) → r < 24 → b < 256 → inRow rows r b ≡ (ltb b c and ltb (getD lengths b 0) (64 * r))
 
--- each of the c jobs is in the row after that of its 64ths
+-- each of the c jobs is in one row, the first of those that are to have it
 pub record ByMinutes (lengths : List ℕ) (c : ℕ) (rows : List ℕ) : Type 0 where
   pub long : length rows ≡ 96
   pub each : (r b : ℕ) → r < 24 → b < 256 → inRow rows r b ≡ (ltb b c and eqb (getD lengths b 0 / 64 + 1) r)
 
--- each row has what those up to it had
+-- each row gets what those before it have
 pub record Piled (old new : List ℕ) : Type 0 where
   pub long : length new ≡ length old
   pub first : (b : ℕ) → b < 256 → inRow new 0 b ≡ inRow old 0 b

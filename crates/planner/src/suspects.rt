@@ -21,7 +21,7 @@ pub struct Next {
     pub minutes: u16,
 }
 
-// Each job, in the set after that of its minutes.
+// Each job in one set: the first of those that are to have it.
 fn by_minutes(minutes: &[u16], n: usize) -> [u64; 96]
     requires { ⌜ (n ≤ 200) × (n ≤ length (now minutes)) × ((b : ℕ) → b < n → getD (now minutes) b 0 ≤ 1440) ⌝ }
     ensures { λ r. ⌜ ByMinutes (now (minutes .entry)) n r ⌝ }
@@ -36,7 +36,7 @@ fn by_minutes(minutes: &[u16], n: usize) -> [u64; 96]
     rows
 }
 
-// Each set has what those before it have.
+// Each set gets what those before it have.
 fn pile(rows: [u64; 96]) -> [u64; 96]
     ensures { λ r. ⌜ Piled rows r ⌝ }
 {
@@ -209,7 +209,7 @@ fn gather(some: &mut [u64], short: &[u64], on: &[u64], c: usize, p: usize)
     }
 }
 
-// Each job that is shorter than its machine's load is above that of the machine at index i becomes a suspect.
+// Each job that would finish earlier on the machine at index i, if it may run there, becomes a suspect.
 fn draw_to(some: &mut [u64], short: &[u64], on: &[u64], loads: &[u32], i: usize, m: usize)
     requires { ⌜ (length (now some) ≡ 4) × (length (now short) ≡ 96) × (length (now on) ≡ 96) × (m ≤ 24) × (m ≤ length (now loads)) × (i < m) ⌝ }
     ensures { λ _. ⌜ ((lengths places : List ℕ) (n : ℕ) → Listed lengths places m n (now (short .entry)) (now (on .entry))

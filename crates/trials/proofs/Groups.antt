@@ -93,14 +93,6 @@ all-set m h = rw (all-word m h) record {
   each = λ i l u. has-bit (2 ^ m - 1) i ∙ ones m (i - 1) ∙ (let e : suc (i - 1) ≡ i = omega arith in rw e);
 }
 
--- the group of all machines
-pub all-group : (I : Instance) (m x : ℕ) → I .m ≡ m → SetOf (λ i. leb i m) x → SetOf (λ i. mem i (thoseTo (I .m) (λ k. true))) x
-all-group I m x e =
-    set-same (λ i. mem i (thoseTo (I .m) (λ k. true)))
-    (λ i l u.
-    sym (those-all (I .m) (λ j. leb j m) (λ j t. let h = leb-true j m t in omega arith) i l)
-    ∙ ap (mem i) (those-ext (I .m) (λ j. leb j m) (λ k. true) (λ j p q. le-leb j m (omega arith))))
-
 -- the empty group
 pub none-group : SetOf (λ i. mem i []) 0
 none-group = set-same (λ i. mem i []) (λ i l u. sym (mem-none i)) set-none

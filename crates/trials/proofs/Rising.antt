@@ -73,9 +73,6 @@ module _ (I : Instance) (a : ℕ) (t : State) {limit m c : ℕ} {lengths sets : 
       (first-ext (n I) _ _ (λ b b0 bn.
       rw (at-take (n I) (t .places) b bn, at-take (n I) (t .jobs) b bn, at-take (I .m) (t .machines) (suc i) l)))
 
-  least-at : (k : ℕ) → k ≤ n I → at (take (n I) (t .jobs)) k ≡ at (t .jobs) k
-  least-at k h = at-take (n I) (t .jobs) k h
-
   pub first-by : Tracks I a t → firstTo m (λ q. ltb limit (at (t .loads) q) and leb (at (t .machines) q) (2 * m)) ≡ firstTo (I .m) (λ q. able I a (stateOf (I .m) (n I) t) q)
   first-by k =
       ap (λ (r : ℕ). firstTo r (λ q. ltb limit (at (t .loads) q) and leb (at (t .machines) q) (2 * m))) (sym (u .reads .machines))

@@ -1,4 +1,4 @@
--- Each job is entered in the row after that of its 64ths.
+-- Each job is entered in the first row that is to have it.
 -- Assumes nothing.
 use Prim.Native.Nat.{_+_, _-_, _/_, _≤_}
 use mathlib.Core.Path.{_≡_, sym, _∙_}
