@@ -8,6 +8,7 @@ use std::thread;
 
 use against::Case;
 
+use crate::due::Due;
 use crate::listing::{Listing, MOST};
 use crate::{plan_second, Hosted};
 
@@ -58,55 +59,18 @@ impl Room {
 }
 
 /// What the second planner makes of a sheet.
-#[derive(Clone, Debug, PartialEq, Eq)]
-pub enum Expected {
-    Listing(Vec<u8>),
-    Refused { refusal: u32, line: usize },
-}
-
-impl Expected {
-    pub fn of(sheet: &[u8]) -> Expected {
-        let mut listing = vec![0; MOST];
-        let answer = plan_second(sheet, &mut listing);
-        match answer.refusal {
-            0 => {
-                listing.truncate(answer.length as usize);
-                Expected::Listing(listing)
-            }
-            refusal => Expected::Refused {
-                refusal,
-                line: answer.line,
-            },
+pub fn listing_due(sheet: &[u8]) -> Due {
+    let mut listing = vec![0; MOST];
+    let answer = plan_second(sheet, &mut listing);
+    match answer.refusal {
+        0 => {
+            listing.truncate(answer.length);
+            Due::Text(listing)
         }
-    }
-
-    /// How many bytes the listing has, or the least of any.
-    pub fn length(&self) -> usize {
-        match self {
-            Expected::Listing(listing) => listing.len(),
-            Expected::Refused { .. } => LEAST,
-        }
-    }
-
-    /// What a call with a buffer of this size returns and writes.
-    fn at(&self, size: usize) -> (Hosted, &[u8]) {
-        let refused = |refusal, line| Hosted {
+        refusal => Due::Refused {
             refusal,
-            line,
-            length: 0,
-        };
-        match self {
-            Expected::Refused { refusal, line } => (refused(*refusal, *line), &[]),
-            Expected::Listing(listing) if size < listing.len() => (refused(9, 0), &[]),
-            Expected::Listing(listing) => {
-                let written = Hosted {
-                    refusal: 0,
-                    line: 0,
-                    length: listing.len(),
-                };
-                (written, listing)
-            }
-        }
+            line: answer.line,
+        },
     }
 }
 
@@ -167,7 +131,7 @@ impl<P: Fn(&[u8], &mut [u8]) -> Hosted> Judge<P> {
     }
 
     /// One call, with a buffer of this size.
-    pub fn call(&mut self, sheet: &[u8], size: usize, due: &Expected) -> Result<Hosted, String> {
+    pub fn call(&mut self, sheet: &[u8], size: usize, due: &Due) -> Result<Hosted, String> {
         let planner = &self.planner;
         let hosted = self.lent.lend(size, |listing| planner(sheet, listing));
         let (answer, listing) = due.at(size);
@@ -179,10 +143,10 @@ impl<P: Fn(&[u8], &mut [u8]) -> Hosted> Judge<P> {
     }
 
     /// A call with each kind of buffer.
-    pub fn rooms(&mut self, sheet: &[u8], due: &Expected, met: &mut Met) -> Result<(), String> {
+    pub fn rooms(&mut self, sheet: &[u8], due: &Due, met: &mut Met) -> Result<(), String> {
         met.sheet(sheet, due);
         for (k, room) in Room::ALL.into_iter().enumerate() {
-            let size = room.size(due.length());
+            let size = room.size(due.length_or(LEAST));
             let hosted = self
                 .call(sheet, size, due)
                 .map_err(|fault| format!("a buffer of {size} ({room:?}): {fault}"))?;
@@ -232,13 +196,13 @@ pub struct Plans {
 }
 
 impl Met {
-    fn sheet(&mut self, sheet: &[u8], due: &Expected) {
+    fn sheet(&mut self, sheet: &[u8], due: &Due) {
         self.sheets += 1;
         match due {
-            Expected::Refused { refusal, line } => {
+            Due::Refused { refusal, line } => {
                 self.lines[*refusal as usize].insert(*line);
             }
-            Expected::Listing(listing) => self.plans.plan(sheet, listing),
+            Due::Text(listing) => self.plans.plan(sheet, listing),
         }
     }
 
@@ -334,7 +298,7 @@ pub fn compare(runs: u64, make: impl Fn(u64) -> Vec<Case> + Sync) -> Met {
                         break;
                     }
                     for case in make(run) {
-                        let due = Expected::of(&case.sheet);
+                        let due = listing_due(&case.sheet);
                         judge
                             .rooms(&case.sheet, &due, &mut met)
                             .unwrap_or_else(|fault| {

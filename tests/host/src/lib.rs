@@ -3,6 +3,7 @@
 //! the sheet's, those of its calls' answers come back.
 
 pub mod check;
+pub mod due;
 pub mod journal;
 pub mod kinds;
 pub mod listing;

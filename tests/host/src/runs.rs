@@ -11,6 +11,7 @@ use against::{Case, Seen};
 use second::{Call, Sheet};
 
 use crate::check::Lent;
+use crate::due::Due;
 use crate::journal::{answers, journal, numbers, read, GREATEST};
 use crate::{run, Hosted};
 
@@ -20,56 +21,19 @@ pub const LEAST: usize = 7;
 /// The refusal of a journal that is not of the form.
 pub const BAD_JOURNAL: u32 = 19;
 
-/// What the second planner makes of a sheet and a journal.
-#[derive(Clone, Debug, PartialEq, Eq)]
-pub enum Due {
-    Answers(Vec<u8>),
-    Refused { refusal: u32, line: usize },
-}
-
-impl Due {
-    /// The sheet is judged first, then the journal.
-    pub fn of(sheet: &[u8], journal: &[u8]) -> Due {
-        match (second::read(sheet), read(journal)) {
-            (Err(fault), _) => Due::Refused {
-                refusal: fault.refusal.number(),
-                line: fault.line as usize,
-            },
-            (Ok(_), Err(line)) => Due::Refused {
-                refusal: BAD_JOURNAL,
-                line,
-            },
-            (Ok(mut sheet), Ok(calls)) => Due::Answers(answers(&mut sheet, &calls)),
-        }
-    }
-
-    /// How many bytes the answers have, or the least of one answer.
-    pub fn length(&self) -> usize {
-        match self {
-            Due::Answers(text) => text.len(),
-            Due::Refused { .. } => LEAST,
-        }
-    }
-
-    /// What a call with a buffer of this size returns and writes.
-    fn at(&self, size: usize) -> (Hosted, &[u8]) {
-        let refused = |refusal, line| Hosted {
-            refusal,
+/// What the second planner makes of a sheet and a journal. The sheet is judged
+/// first, then the journal.
+pub fn answers_due(sheet: &[u8], journal: &[u8]) -> Due {
+    match (second::read(sheet), read(journal)) {
+        (Err(fault), _) => Due::Refused {
+            refusal: fault.refusal.number(),
+            line: fault.line as usize,
+        },
+        (Ok(_), Err(line)) => Due::Refused {
+            refusal: BAD_JOURNAL,
             line,
-            length: 0,
-        };
-        match self {
-            Due::Refused { refusal, line } => (refused(*refusal, *line), &[]),
-            Due::Answers(text) if size < text.len() => (refused(9, 0), &[]),
-            Due::Answers(text) => {
-                let written = Hosted {
-                    refusal: 0,
-                    line: 0,
-                    length: text.len(),
-                };
-                (written, text)
-            }
-        }
+        },
+        (Ok(mut sheet), Ok(calls)) => Due::Text(answers(&mut sheet, &calls)),
     }
 }
 
@@ -120,7 +84,7 @@ impl Judge {
         spare: usize,
         met: &mut Met,
     ) -> Result<(), String> {
-        let fit = due.length();
+        let fit = due.length_or(LEAST);
         let sizes = [Some(0), fit.checked_sub(1), Some(fit), Some(fit + spare)];
         met.pairs += 1;
         for (k, size) in sizes.into_iter().enumerate() {
@@ -281,7 +245,7 @@ pub fn compare(shares: u64, make: impl Fn(u64) -> Vec<Case> + Sync) -> Met {
             met.arguments
                 .calls(&case.calls, sheet.instruments(), text.len());
             judge
-                .rooms(&case.sheet, &journal, &Due::Answers(text), 1 + k % 99, met)
+                .rooms(&case.sheet, &journal, &Due::Text(text), 1 + k % 99, met)
                 .unwrap_or_else(|fault| {
                     let sheet = String::from_utf8_lossy(&case.sheet);
                     let journal = String::from_utf8_lossy(&journal);
@@ -301,7 +265,7 @@ fn shown(sheet: &Sheet) -> [Call; 2] {
 pub fn compare_bytes(shares: u64, make: impl Fn(u64) -> Vec<(Vec<u8>, Vec<u8>)> + Sync) -> Met {
     shared(shares, |share, judge, met| {
         for (k, (sheet, journal)) in make(share).into_iter().enumerate() {
-            let due = Due::of(&sheet, &journal);
+            let due = answers_due(&sheet, &journal);
             judge
                 .rooms(&sheet, &journal, &due, 1 + k % 2_999, met)
                 .unwrap_or_else(|fault| {

@@ -4,7 +4,7 @@
 use std::hint::black_box;
 
 use against::cases;
-use host::check::{Expected, Judge, Met};
+use host::check::{listing_due, Judge, Met, LEAST};
 use host::kinds::{Kind, Lengths, Lists, Places};
 use host::listing::MOST;
 use host::{plan, Hosted};
@@ -36,8 +36,8 @@ fn every_size() {
     };
     sheets.push(kind.sheet(&mut rng));
     for sheet in sheets {
-        let due = Expected::of(&sheet);
-        for size in 0..=due.length() + 3 {
+        let due = listing_due(&sheet);
+        for size in 0..=due.length_or(LEAST) + 3 {
             let hosted = judge.call(&sheet, size, &due).unwrap_or_else(|fault| {
                 let text = String::from_utf8_lossy(&sheet);
                 panic!("a buffer of {size}: {fault}\nsheet:\n{text}")
@@ -105,7 +105,7 @@ fn bytes_beside_the_sheet() {
                 own..own + 1
             };
             for end in ends {
-                let due = Expected::of(&file[..end]);
+                let due = listing_due(&file[..end]);
                 let sheet = &memory[offset..offset + end];
                 let hosted = judge.call(sheet, MOST, &due);
                 let hosted = hosted.unwrap_or_else(|fault| panic!("{fault}\n{end} of {file:?}"));
@@ -239,7 +239,7 @@ fn cheats_are_caught() {
     let verdict = |planner: fn(&[u8], &mut [u8]) -> Hosted| -> Result<(), String> {
         let mut judge = Judge::new(planner);
         for sheet in sheets {
-            judge.rooms(sheet, &Expected::of(sheet), &mut Met::default())?;
+            judge.rooms(sheet, &listing_due(sheet), &mut Met::default())?;
         }
         Ok(())
     };

@@ -5,8 +5,9 @@ use std::hint::black_box;
 use std::sync::atomic::{AtomicUsize, Ordering};
 
 use against::{cases, Case};
+use host::due::Due;
 use host::journal::{journal, read, GREATEST};
-use host::runs::{compare, compare_bytes, Due, Judge, Met, Runner, BAD_JOURNAL, LEAST};
+use host::runs::{answers_due, compare, compare_bytes, Judge, Met, Runner, BAD_JOURNAL, LEAST};
 use host::{run, Hosted};
 use second::gen;
 use second::rng::Rng;
@@ -78,8 +79,8 @@ fn known_answers() {
     assert_eq!(answer(group, "     7\n").unwrap(), plan);
     let failure = "     0     0     9    12     1\n";
     assert_eq!(answer(group, "     6    19\n").unwrap(), failure);
-    let due = Due::of(group.as_bytes(), b"     6    19\n");
-    assert_eq!(due, Due::Answers(failure.into()));
+    let due = answers_due(group.as_bytes(), b"     6    19\n");
+    assert_eq!(due, Due::Text(failure.into()));
     assert_eq!(answer(SHEET, "").unwrap(), "");
 }
 
@@ -447,8 +448,8 @@ fn every_size() {
         if round % 4 == 0 {
             journal.push(b' ');
         }
-        let due = Due::of(&sheet, &journal);
-        for size in 0..=due.length() + 3 {
+        let due = answers_due(&sheet, &journal);
+        for size in 0..=due.length_or(LEAST) + 3 {
             let ran = judge
                 .call(&sheet, &journal, size, &due)
                 .unwrap_or_else(|fault| panic!("a buffer of {size}: {fault}\n{calls:?}"));
@@ -485,9 +486,9 @@ fn bytes_beside_the_journal() {
             let before = (sheet.clone(), memory.clone());
             let first = if offset == 0 { 0 } else { own };
             for end in first..=own {
-                let due = Due::of(&sheet, &file[..end]);
+                let due = answers_due(&sheet, &file[..end]);
                 let journal = &memory[offset..offset + end];
-                let ran = judge.call(&sheet, journal, due.length() + 9, &due);
+                let ran = judge.call(&sheet, journal, due.length_or(LEAST) + 9, &due);
                 let ran = ran.unwrap_or_else(|fault| panic!("{fault}\n{end} of {file:?}"));
                 match ran.refusal {
                     0 => good += 1,
@@ -697,7 +698,7 @@ fn cheats_are_caught() {
         for sheet in &sheets {
             for journal in &journals {
                 let (sheet, journal) = (sheet.as_bytes(), journal.as_bytes());
-                let due = Due::of(sheet, journal);
+                let due = answers_due(sheet, journal);
                 judge.rooms(sheet, journal, &due, 20, &mut Met::default())?;
             }
         }
