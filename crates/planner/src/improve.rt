@@ -63,7 +63,7 @@ pub fn first_improving(
     0
 }
 
-// The least load of all: none is below it.
+// The least load: no machine has less.
 pub fn least_load(loads: &[u32], m: usize) -> u32
     requires { ⌜ m ≤ length (now loads) ⌝ }
     ensures { λ r. ⌜ ((i : ℕ) → 0 < i → i ≤ m → r ≤ at (now (loads .entry)) i) ⌝ }
