@@ -38,8 +38,9 @@ verdict=$(tail -n 1 "$log")
 [[ $verdict =~ ^[1-9][0-9]*\ passed,\ 0\ failed$ ]] || missing "rt ci's verdict; its last line was: $verdict"
 
 echo "== the static library, and a host in C"
-# the shorter of the two, and after it the tests that need neither, beside the longer
-(rt staticlib listing && cd tests && cargo test --offline --quiet --no-run -p second -p against) &
+rt staticlib listing
+# one rt at a time; beside it, what of the tests needs no library
+(cd tests && cargo test --offline --quiet --no-run -p second -p against) &
 beside=$!
 rt staticlib journal
 wait "$beside"
