@@ -1,15 +1,13 @@
--- The digits of a word, as tests: those of a conjunction, a disjunction, a power and a complement, and the lowest one.
+-- The digits of a word, as tests: those of a conjunction, a disjunction, a power and a complement.
 -- Assumes nothing.
-use Prim.Native.Nat.{ℕ, zero, suc, _+_, _-_, _*_, _/_, _%_, _^_, _≤_, _<_, min, max}
+use Prim.Native.Nat.{ℕ, zero, suc, _+_, _-_, _*_, _/_, _%_, _^_, _<_, min, max}
 use mathlib.Core.Path.{_≡_, refl, sym, ap, _∙_}
-use mathlib.Core.Bool.{Bool, true, false, not}
-use native.Mathlib.Nat.{mod-lt, pow-suc, div-one, zero-lt-suc, lt-of-le-of-lt}
+use mathlib.Core.Bool.{Bool, false, not}
+use native.Mathlib.Nat.{mod-lt, pow-suc, div-one, zero-lt-suc}
 use native.Mathlib.Numerals.{one-add}
 use native.Mathlib.Omega.{arith}
-use native.Mathlib.Decide.{decLe}
 use lib.Arith.{digits-div, digits-mod}
-use lib.Bits.{bitAnd, bitOr, and-step, or-step, and-le-l}
-use lib.Count.{trailingZeros, under}
+use lib.Bits.{bitAnd, bitOr, and-step, or-step}
 use lib.Pow.{shr-shr}
 use lib.Dec.{eqb, eqb·suc-suc}
 use borrow.Author.Tests.{eqb-true, eqb-false, eq-eqb, ne-eqb}
@@ -99,7 +97,7 @@ bit-not (suc w) a (suc k) h l =
     let e : (2 ^ suc w - 1 - a) / 2 ≡ 2 ^ w - 1 - a / 2 = omega arith in
     ap (λ (x : ℕ). bit x k) e ∙ bit-not w (a / 2) k (omega arith) (omega arith)
 
--- ---- the lowest digit that is set
+-- ---- a word without a digit that is set
 
 pub bits-none : (w x : ℕ) → x < 2 ^ w → ((k : ℕ) → k < w → bit x k ≡ false) → x ≡ 0
 unfolding bit
@@ -109,94 +107,3 @@ bits-none (suc w) x h n =
     let r = bits-none w (x / 2) (omega arith) (λ k l. n (suc k) (omega arith)) in
     let z = eqb-false (x % 2) 1 (n 0 (omega arith)) in
     omega arith
-
-clear-step : (x t : ℕ) → ((k : ℕ) → k < t → bit (x / 2) k ≡ false) → (d k : ℕ) → x % 2 ≡ d → k < under d t → bit x k ≡ false
-unfolding bit
-clear-step x t h zero zero e l = ne-eqb (x % 2) 1 (λ z. omega arith)
-clear-step x t h zero (suc k) e l = h k (omega arith)
-clear-step x t h (suc d) k e l = absurd (omega arith)
-
-pub trailing-clear : (w x k : ℕ) → k < trailingZeros w x → bit x k ≡ false
-unfolding trailingZeros
-trailing-clear zero x k h = absurd (omega arith)
-trailing-clear (suc w) x k h = clear-step x (trailingZeros w (x / 2)) (trailing-clear w (x / 2)) (x % 2) k refl h
-
-set-step : (x t w : ℕ) → (t < w → bit (x / 2) t ≡ true) → (d : ℕ) → x % 2 ≡ d → under d t < suc w → bit x (under d t) ≡ true
-unfolding bit
-set-step x t w h zero e l = h (omega arith)
-set-step x t w h (suc d) e l = eq-eqb (x % 2) 1 (omega arith)
-
-pub trailing-set : (w x : ℕ) → trailingZeros w x < w → bit x (trailingZeros w x) ≡ true
-unfolding trailingZeros
-trailing-set zero x h = absurd (omega arith)
-trailing-set (suc w) x h = set-step x (trailingZeros w (x / 2)) w (trailing-set w (x / 2)) (x % 2) refl h
-
--- a word of w digits that is not 0 has one set, whatever the width that is counted to
-pub trailing-small : (v w x : ℕ) → w ≤ v → x < 2 ^ w → (x ≡ 0 → ⊥) → trailingZeros v x < w
-trailing-small v w x l h n = elim (decLe w (trailingZeros v x)) [
-  | yes z ↦ absurd (n (bits-none w x h (λ k u. trailing-clear v x k (omega arith))))
-  | no z ↦ omega arith
-]
-
-and-not : (a : Bool) → a and not a ≡ false
-unfolding _and_
-and-not true = refl
-and-not false = refl
-
-and-true : (a : Bool) → a and true ≡ a
-unfolding _and_
-and-true true = refl
-and-true false = refl
-
--- a word and its complement have no digit in common
-apart : (w x : ℕ) → x < 2 ^ w → bitAnd x (2 ^ w - 1 - x) ≡ 0
-apart w x h =
-    bits-none w (bitAnd x (2 ^ w - 1 - x)) (lt-of-le-of-lt (and-le-l x (2 ^ w - 1 - x)) h)
-    (λ k l. bit-and x (2 ^ w - 1 - x) k ∙ rw (bit-not w x k h l) (and-not (bit x k)))
-
-lowest-step : (w x : ℕ) → 0 < x → x < 2 ^ suc w
-    → (0 < x / 2 → x / 2 < 2 ^ w → bitAnd (x / 2) (2 ^ w - x / 2) ≡ 2 ^ trailingZeros w (x / 2))
-    → (d : ℕ) → x % 2 ≡ d → bitAnd x (2 ^ suc w - x) ≡ 2 ^ under d (trailingZeros w (x / 2))
-lowest-step w x l h f zero e =
-    let p = pow-suc 2 w in
-    let t = trailingZeros w (x / 2) in
-    let a : (2 ^ suc w - x) / 2 ≡ 2 ^ w - x / 2 = omega arith in
-    let b : (2 ^ suc w - x) % 2 ≡ 0 = omega arith in
-    and-step x (2 ^ suc w - x) ∙ rw (a, b, e, f (omega arith) (omega arith)) (omega (arith, pow-suc 2 t))
-lowest-step w x l h f (suc d) e =
-    let p = pow-suc 2 w in
-    let a : (2 ^ suc w - x) / 2 ≡ 2 ^ w - 1 - x / 2 = omega arith in
-    let b : (2 ^ suc w - x) % 2 ≡ 1 = omega arith in
-    let o : x % 2 ≡ 1 = omega arith in
-    and-step x (2 ^ suc w - x) ∙ rw (a, b, o, apart w (x / 2) (omega arith))
-
--- a word and its negative have the lowest digit in common, and no other
-pub lowest-power : (w x : ℕ) → 0 < x → x < 2 ^ w → bitAnd x (2 ^ w - x) ≡ 2 ^ trailingZeros w x
-unfolding trailingZeros
-lowest-power zero x l h = absurd (omega arith)
-lowest-power (suc w) x l h = lowest-step w x l h (lowest-power w (x / 2)) (x % 2) refl
-
--- ---- a digit that is set, taken away
-
-pub power-le : (t x : ℕ) → bit x t ≡ true → 2 ^ t ≤ x
-unfolding bit
-power-le zero x e = omega (arith, eqb-true (x % 2) 1 e)
-power-le (suc t) x e = omega (arith, pow-suc 2 t, power-le t (x / 2) e)
-
-pub bit-less : (t x k : ℕ) → bit x t ≡ true → bit (x - 2 ^ t) k ≡ bit x k and not (eqb k t)
-unfolding bit _and_
-bit-less zero x zero e = let o = eqb-true (x % 2) 1 e in rw e (ne-eqb ((x - 2 ^ 0) % 2) 1 (λ z. omega arith))
-bit-less zero x (suc k) e =
-    let o = eqb-true (x % 2) 1 e in
-    let q : (x - 2 ^ 0) / 2 ≡ x / 2 = omega arith in
-    rw (q, ne-eqb (suc k) 0 (λ z. omega arith)) (sym (and-true (bit (x / 2) k)))
-bit-less (suc t) x zero e =
-    let p = pow-suc 2 t in
-    let l = power-le t (x / 2) e in
-    let q : (x - 2 ^ suc t) % 2 ≡ x % 2 = omega arith in
-    rw (q, ne-eqb 0 (suc t) (λ z. omega arith)) (sym (and-true (eqb (x % 2) 1)))
-bit-less (suc t) x (suc k) e =
-    let p = pow-suc 2 t in
-    let l = power-le t (x / 2) e in
-    let q : (x - 2 ^ suc t) / 2 ≡ x / 2 - 2 ^ t = omega arith in
-    rw (q, eqb·suc-suc k t) (bit-less t (x / 2) k e)

@@ -1,11 +1,9 @@
 pub mod Bits
-pub mod Entering
 pub mod Entries
 pub mod Filling
-pub mod Less
-pub mod JobRows
-pub mod Levels
+pub mod Kept
 pub mod Loads
 pub mod Masks
 pub mod Search
+pub mod Turns
 pub mod Words

@@ -1,3 +1,2 @@
-pub mod Less
+pub mod Reads
 pub mod Sets
-pub mod Rows

@@ -1,5 +1,8 @@
-// Searches over lent arrays, and sets of machines in words: the planner's inner loops.
-pub mod rows;
+// Sums over plain arrays, and sets of machines in words.
 pub mod scan;
 pub mod sets;
-pub mod setup;
+
+// The most machines and the most jobs of an instance, as the lengths of arrays.
+pub const MACHINES: usize = 24;
+
+pub const JOBS: usize = 200;

@@ -1,39 +1,9 @@
-// Searches over machines and jobs, on lent arrays. Numbers start at 1, and 0 stands for none.
+// Sums and greatest entries over machines and jobs, on lent arrays.
 ghost use mathlib.Core.Path.{_≡_};
 ghost use Prim.Native.Nat.{ℕ, _<_, _≤_};
 ghost use lib.ListN.{length};
-ghost use lib.Dec.{leb, ltb, eqb};
-ghost use Rattle.rules.specs.Fold.{_and_, pick, at, firstTo, anyTo, maxTo, sumTo};
-
-// The lowest machine of more load than `cap` and of height `top` at most.
-pub fn first_able(loads: &[u32], heights: &[u8], m: usize, cap: u32, top: u8) -> usize
-    requires { ⌜ (m ≤ length (now loads)) × (m ≤ length (now heights)) ⌝ }
-    ensures { λ r. ⌜ r ≡ firstTo m (λ i. ltb cap (at (now (loads .entry)) i) and leb (at (now (heights .entry)) i) top) ⌝ }
-{
-    let mut i: usize = 0;
-    while i < m {
-        if loads[i] > cap && heights[i] <= top {
-            return i + 1;
-        }
-        i += 1;
-    }
-    0
-}
-
-// Some machine's load is `a` at most.
-pub fn some_at_most(loads: &[u32], m: usize, a: u32) -> bool
-    requires { ⌜ m ≤ length (now loads) ⌝ }
-    ensures { λ r. ⌜ r ≡ anyTo m (λ i. leb (at (now (loads .entry)) i) a) ⌝ }
-{
-    let mut i: usize = 0;
-    while i < m {
-        if loads[i] <= a {
-            return true;
-        }
-        i += 1;
-    }
-    false
-}
+ghost use lib.Dec.{eqb};
+ghost use Rattle.rules.specs.Fold.{pick, at, maxTo, sumTo};
 
 // The most minutes of a job.
 pub fn largest(minutes: &[u16], n: usize) -> u32

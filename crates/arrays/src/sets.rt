@@ -1,12 +1,11 @@
-// Sets of machines in a word: machine i is bit i - 1. And the levels: for each height, the machines that stand there.
+// Sets of machines in a word: machine i is bit i - 1.
 ghost use mathlib.Core.Path.{_≡_};
-ghost use mathlib.Core.Bool.{not};
-ghost use mathlib.Core.Logic.{_≢_};
 ghost use Prim.Native.Nat.{suc, _+_, _-_, _<_, _≤_, _^_};
 ghost use lib.ListN.{length, getD};
 ghost use lib.Dec.{leb, eqb};
 ghost use Rattle.rules.specs.Fold.{_and_, _or_};
-ghost use Rattle.arrays.specs.Sets.{has, SetOf, Leveled, Lifted};
+ghost use Rattle.arrays.specs.Sets.{has, SetOf, SetsOf};
+use crate::JOBS;
 
 // The set `x` and machine `i`.
 pub fn with(x: u32, i: usize) -> u32
@@ -14,14 +13,6 @@ pub fn with(x: u32, i: usize) -> u32
     ensures { λ r. ⌜ SetOf (λ j. eqb j i or has x j) r ⌝ }
 {
     1 << (i - 1) | x
-}
-
-// The set `x` but for machine `i`.
-pub fn without(x: u32, i: usize) -> u32
-    requires { ⌜ (x < 2 ^ 24) × (0 < i) × (i ≤ 24) ⌝ }
-    ensures { λ r. ⌜ SetOf (λ j. not (eqb j i) and has x j) r ⌝ }
-{
-    !(1 << (i - 1)) & x
 }
 
 // The machines 1 to `m` that a job may run on, one byte a machine from `base` on.
@@ -40,13 +31,18 @@ pub fn mask_at(eligible: &[u8], base: usize, m: usize) -> u32
     x
 }
 
-// Machine `i` goes from level `h` to level `g`.
-pub fn lift_level(levels: &mut [u32], i: usize, h: usize, g: usize)
-    requires { ⌜ Leveled (now levels) × (0 < i) × (i ≤ 24) × (h < 64) × (g < 64) × (h ≢ g) ⌝ }
-    ensures { λ _. ⌜ Lifted (now (levels .entry)) (now (levels .exit)) i h g ⌝ }
+// The machines that each of n jobs may run on, as sets, from a byte for each machine, 24 to a job.
+pub fn masks_of(eligible: &[u8], n: usize, m: usize) -> [u32; JOBS]
+    requires { ⌜ (n ≤ 200) × (m ≤ 24) × (length (now eligible) ≡ 4800) ⌝ }
+    ensures { λ r. ⌜ SetsOf (now (eligible .entry)) m n r ⌝ }
 {
-    levels[h] = without(levels[h], i);
-    levels[g] = with(levels[g], i);
+    let mut out = [0u32; JOBS];
+    let mut b: usize = 0;
+    while b < n {
+        out[b] = mask_at(eligible, b * 24, m);
+        b += 1;
+    }
+    out
 }
 
 // The machine at index i is in the set.

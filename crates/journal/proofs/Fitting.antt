@@ -13,7 +13,7 @@ use Rattle.rules.specs.Render.{columns, fields, line}
 use Rattle.rules.specs.Edit as E
 use Rattle.rules.specs.Instance.{Instance, instance, places, n}
 use Rattle.rules.specs.Load.{load, total, review, improves}
-use Rattle.rules.specs.Trial.{ended}
+use Rattle.rules.specs.Trial.{atLevel, ended}
 use Rattle.rules.specs.Group as G
 use Rattle.rules.specs.Plan.{plan}
 use Rattle.rules.specs.Run.{Call, Answer, refused, done, reviewed, tried, planned, answer, answerNumbers, editAnswer, tryAnswer, planBook}
@@ -23,7 +23,9 @@ use Rattle.theory.proofs.Logic.{conflict}
 use Rattle.theory.proofs.View.{First, nowhere, found, first}
 use Rattle.theory.proofs.Valid.{on-machine}
 use Rattle.theory.proofs.Closure.{IsGroup, group-range}
+use Rattle.theory.proofs.Heights.{permitted-partial}
 use Rattle.theory.proofs.Ending.{trial-lifts, trial-pushes}
+use Rattle.theory.proofs.Small.{load-small, makespan-small, lifts-small, pushes-small}
 use Rattle.theory.proofs.Trial.{Outcome, passes, fails, outcome, trial-permitted}
 use Rattle.theory.proofs.Balancing.{Showing, unfailed, showed}
 use Rattle.theory.proofs.Planning.{plan-showing}
@@ -31,9 +33,10 @@ use Rattle.theory.proofs.Field.{columns-length}
 use Rattle.sheet.specs.declared.Sheet.{Sheet}
 use Rattle.sheet.specs.Represent.{Sound, bookOf}
 use Rattle.sheet.proofs.Marking.{length-listTo}
-use Rattle.sheet.proofs.Shown.{view-instruments, view-batches, view-valid, view-permitted, view-short, view-lists}
+use Rattle.sheet.proofs.Shown.{view-instruments, view-batches, view-valid, view-permitted}
+use Rattle.planner.proofs.Stands.{view-small}
 use Rattle.listing.proofs.Fields.{fields-length, line-length}
-use Rattle.listing.proofs.Figures.{plan-fits, load-few, makespan-few, lifts-few, pushes-few, group-few}
+use Rattle.listing.proofs.Figures.{plan-fits, group-few}
 use Rattle.journal.specs.Answering.{isPlan, lineOf, lineLength, Small, Fitting}
 use Rattle.journal.proofs.Small.{small-none, small-more, small-one, small-to, small-mem, small-by}
 
@@ -85,8 +88,8 @@ module _ (s : Sheet) (v : Sound s) where
   review-fits =
       let i = instance (bookOf s) in
       let y = places (bookOf s) in
-      let few = load-few i y (view-valid s v) (view-permitted s v) machines (view-batches s v) (view-short s v) (view-lists s v) y in
-      let most = makespan-few i y (view-valid s v) (view-permitted s v) machines (view-batches s v) (view-short s v) (view-lists s v) in
+      let few = load-small (view-small s v) y in
+      let most = makespan-small (view-small s v) y in
       let w = review i y in
       plain (0 ∷ w .makespan ∷ w .improving ∷ w .loads)
       (omega (arith, length-listTo (i .m) (λ j. load i y j), machines))
@@ -100,10 +103,10 @@ module _ (s : Sheet) (v : Sound s) where
   tried-fits a o =
       let i = instance (bookOf s) in
       let y = places (bookOf s) in
-      let lifts = lifts-few i y (view-valid s v) (view-permitted s v) machines (view-batches s v) (view-short s v) (view-lists s v) in
-      let pushes = pushes-few i y (view-valid s v) (view-permitted s v) machines (view-batches s v) (view-short s v) (view-lists s v) in
-      let l = trial-lifts i y (view-valid s v) (view-permitted s v) a in
-      let p = trial-pushes i y (view-valid s v) (view-permitted s v) a in
+      let lifts = lifts-small (view-small s v) in
+      let pushes = pushes-small (view-small s v) in
+      let l = trial-lifts i y (permitted-partial (view-permitted s v)) (atLevel i a) in
+      let p = trial-pushes i y (permitted-partial (view-permitted s v)) (atLevel i a) in
       from o (omega arith) (omega arith)
     where
       from : {t : G.Tried} → Outcome (instance (bookOf s)) (places (bookOf s)) (view-valid s v) (view-permitted s v) a t
@@ -112,7 +115,7 @@ module _ (s : Sheet) (v : Sound s) where
           → Fitting false (answerNumbers (tried t))
       from (passes q) l p =
           let e = ended (instance (bookOf s)) (places (bookOf s)) a in
-          let w = trial-permitted (instance (bookOf s)) (places (bookOf s)) (view-valid s v) (view-permitted s v) a in
+          let w = trial-permitted (instance (bookOf s)) (places (bookOf s)) (view-valid s v) (view-permitted s v) (atLevel (instance (bookOf s)) a) in
           plain (0 ∷ 1 ∷ e .lifts ∷ e .pushes ∷ e .assignment)
           (omega (arith, w .size, view-batches s v))
           (small-more 0 _ (omega arith) (small-more 1 _ (omega arith) (small-more (e .lifts) _ l (small-more (e .pushes) _ p

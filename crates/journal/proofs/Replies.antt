@@ -13,7 +13,7 @@ use Rattle.rules.specs.Edit as E
 use Rattle.rules.specs.Instance.{instance, places, n}
 use Rattle.rules.specs.Load.{load, total, review}
 use Rattle.rules.specs.Fold.{listTo}
-use Rattle.rules.specs.Trial.{ended}
+use Rattle.rules.specs.Trial.{atLevel, ended}
 use Rattle.rules.specs.Group as G
 use Rattle.rules.specs.Run.{Call, answer, next, answerNumbers, editAnswer, tryAnswer, planBook}
 use Rattle.rules.specs.Run as R
@@ -124,7 +124,7 @@ module _ (s : Sheet) (v : Sound s) where
       → Long (triedAs t)
   tried-long a (passes p) =
       let e = ended (instance (bookOf s)) (places (bookOf s)) a in
-      let w = trial-permitted (instance (bookOf s)) (places (bookOf s)) (view-valid s v) (view-permitted s v) a in
+      let w = trial-permitted (instance (bookOf s)) (places (bookOf s)) (view-valid s v) (view-permitted s v) (atLevel (instance (bookOf s)) a) in
       record {
         places = length-padded 200 (e .assignment) (omega (arith, w .size, view-batches s v));
         few = omega arith;

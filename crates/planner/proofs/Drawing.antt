@@ -6,25 +6,23 @@ use mathlib.Core.List.{List}
 use native.Mathlib.Omega.{arith}
 use lib.ListN.{length, take}
 use Rattle.rules.specs.Fold.{at, maxTo, thoseTo}
-use Rattle.rules.specs.Instance.{Instance, Assignment, minutesOf, instance}
+use Rattle.rules.specs.Instance.{Instance, Assignment, instance}
 use Rattle.rules.specs.Instance as In
-use Rattle.rules.specs.Load.{load, longest, makespan}
+use Rattle.rules.specs.Load.{load, makespan}
 use Rattle.rules.specs.LowerBound.{lowerBound}
 use Rattle.rules.specs.Settle as Z
 use Rattle.rules.specs.Balance as B
 use Rattle.rules.specs.Plan as P
 use Rattle.rules.specs.Sheet.{Book}
 use Rattle.rules.specs.Run.{withPlaces}
-use Rattle.theory.proofs.Makespan.{longest-le, makespan-le}
 use Rattle.theory.proofs.Planning.{plan-permitted}
 use Rattle.sheet.specs.declared.Sheet.{Sheet}
 use Rattle.sheet.specs.Represent.{Sound, padded, sheetOf, bookOf}
 use Rattle.sheet.proofs.Shown.{view-valid, view-permitted, view-placed}
 use Rattle.arrays.specs.Sets.{has}
-use Rattle.trials.specs.Reads.{Reads}
+use Rattle.arrays.specs.Reads.{Reads}
 use Rattle.trials.specs.Attempt.{Standing}
 use Rattle.trials.specs.Grouping.{Holds}
-use Rattle.trials.proofs.Giving.{load-small}
 use Rattle.planner.specs.declared.balance.Search.{Search}
 use Rattle.planner.specs.declared.plan.Drawn.{Drawn}
 use Rattle.planner.specs.Settling.{Known, Placing, SettledTo}
@@ -41,18 +39,8 @@ greatest-is {I} {m} {c} places r h =
     max-agree m _ _ h ∙ ap (λ (k : ℕ). maxTo k (λ i. load I (take c places) i)) (sym (r .machines))
 
 module _ {I : Instance} {m c : ℕ} {lengths sets places loads : List ℕ} (st : Standing I m c lengths sets places loads) where
-  pub most-is : maxTo c (λ b. at lengths b) ≡ longest I
-  unfolding longest
-  most-is = max-agree c _ _ (st .reads .minutes) ∙ ap (λ (k : ℕ). maxTo k (λ b. minutesOf I b)) (sym (st .reads .jobs))
-
   pub makespan-is : maxTo m (λ i. at loads i) ≡ makespan I (take c places)
   makespan-is = greatest-is places (st .reads) (λ i l u. st .kept i l (omega (arith, st .reads .machines)))
-
-  pub most-few : longest I ≤ 1440
-  most-few = longest-le I 1440 (λ b l u. st .reads .short b)
-
-  pub makespan-few : makespan I (take c places) ≤ 288000
-  makespan-few = makespan-le I _ 288000 (λ i l u. load-small I (take c places) i (omega (arith, st .reads .jobs, st .reads .most)) (st .reads .short))
 
   module _ {s : Search} (found : Sought I m c (take c places) s) where
     pub sought-placing : m ≤ length (s .loads) → Placing I m c (s .places) (s .loads)

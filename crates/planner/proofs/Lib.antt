@@ -1,15 +1,9 @@
 pub mod Drawing
-pub mod Improves
-pub mod Lightest
-pub mod Movers
 pub mod Placing
 pub mod Relocate
-pub mod Renewing
 pub mod Reviewing
 pub mod Runs
 pub mod Seeking
 pub mod Settles
-pub mod Sifting
-pub mod ShortRows
 pub mod Shows
 pub mod Stands

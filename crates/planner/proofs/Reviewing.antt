@@ -12,7 +12,7 @@ use Rattle.rules.specs.Fold.{pick, at, sumTo, maxTo, firstTo, listTo}
 use Rattle.rules.specs.Instance.{Instance, minutesOf}
 use Rattle.rules.specs.Load.{load, makespan, improves, review}
 use Rattle.theory.proofs.Fold.{sumTo-ext}
-use Rattle.trials.specs.Reads.{Reads}
+use Rattle.arrays.specs.Reads.{Reads}
 use Rattle.planner.specs.Settling.{Placing, ReviewIs}
 use Rattle.trials.proofs.Take.{at-take}
 

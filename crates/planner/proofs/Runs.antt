@@ -13,7 +13,7 @@ use Rattle.rules.specs.Edit as E
 use Rattle.rules.specs.Read.{read, accepted}
 use Rattle.rules.specs.Instance.{instance, places}
 use Rattle.rules.specs.Load.{load, review, total}
-use Rattle.rules.specs.Trial.{ended}
+use Rattle.rules.specs.Trial.{atLevel, ended}
 use Rattle.rules.specs.Group as G
 use Rattle.rules.specs.Run.{Call, answer, next, bookAfter, answers, answerNumbers, editAnswer, editBook, tryAnswer, planBook}
 use Rattle.rules.specs.Run as R
@@ -79,7 +79,7 @@ module _ (k : Book) (v : sound k ≡ true) where
   tried-numbers : (a : ℕ) {t : G.Tried} → Outcome (instance k) (places k) (sound-valid k v) (sound-permitted k v) a t
       → replyNumbers k (tried (triedAs t)) ≡ answerNumbers (R.tried t)
   tried-numbers a (passes p) =
-      let w = trial-permitted (instance k) (places k) (sound-valid k v) (sound-permitted k v) a in
+      let w = trial-permitted (instance k) (places k) (sound-valid k v) (sound-permitted k v) (atLevel (instance k) a) in
       let e = ended (instance k) (places k) a in
       ap (λ (l : List ℕ). 0 ∷ 1 ∷ e .lifts ∷ e .pushes ∷ l) (front 200 (e .assignment) (size k) (w .size ∙ jobs-count k))
   tried-numbers a (fails g f) =

@@ -1,9 +1,8 @@
 -- Settling over arrays: what holds after some moves, what one more makes of it, and what stands at the end.
 -- Assumes nothing.
-use Prim.Native.Nat.{ℕ, zero, suc, _+_, _*_, _/_, _≤_, _<_}
+use Prim.Native.Nat.{ℕ, zero, suc, _+_, _*_, _/_, _≤_}
 use mathlib.Core.Path.{_≡_, refl, sym, ap, _∙_}
 use mathlib.Core.List.{List}
-use native.Mathlib.Nat.{mul-le-mul}
 use native.Mathlib.Numerals.{add-one}
 use native.Mathlib.Omega.{arith}
 use lib.ListN.{take, drop}
@@ -11,12 +10,10 @@ use Rattle.rules.specs.Fold.{at, sumTo}
 use Rattle.rules.specs.Instance.{Instance, Assignment}
 use Rattle.rules.specs.Load.{load}
 use Rattle.rules.specs.Settle.{mover, moved, squares, Settled, settleBy, settle}
-use Rattle.theory.proofs.Fold.{sumTo-ext, sumTo-bound}
-use Rattle.theory.proofs.Settling.{move-lowers, run-still}
-use Rattle.trials.specs.Reads.{Reads}
+use Rattle.theory.proofs.Fold.{sumTo-ext}
+use Rattle.theory.proofs.Settling.{mover-some, move-lowers, run-still}
+use Rattle.arrays.specs.Reads.{Reads}
 use Rattle.planner.specs.Settling.{Placing, Moved, SettledTo}
-use Rattle.planner.proofs.Placing.{reads-small}
-use Rattle.planner.proofs.Relocate.{due-improves}
 
 -- ---- the sum of squared loads
 
@@ -26,16 +23,6 @@ module _ {I : Instance} {m c : ℕ} {lengths sets : List ℕ} (r : Reads I m c l
   squares-are {places} {loads} p =
       sumTo-ext m _ _ (λ i l u. rw (p .each i l u))
       ∙ ap (λ (k : ℕ). sumTo k (λ i. load I (take c places) i * load I (take c places) i)) (sym (r .machines))
-
-  pub squares-small : (x : Assignment) → squares I x ≤ 24 * (288000 * 288000)
-  unfolding squares
-  squares-small x =
-      omega (
-        arith,
-        sumTo-bound (I .m) (λ i. load I x i * load I x i) (288000 * 288000) (λ i l u. mul-le-mul (reads-small r x i) (reads-small r x i)),
-        r .machines,
-        r .few,
-      )
 
 -- ---- the run
 
@@ -64,34 +51,32 @@ run-start {I} {m} {c} {places} next p e = record {
 }
 
 -- one move of the rules
-more : (I : Instance) (f : ℕ) (x : Assignment) (made b : ℕ) → squares I x ≤ 2 * f + 1 → 0 < b → squares I (moved I x b) + 2 ≤ squares I x
-    → (g : ℕ) × (squares I (moved I x b) ≤ 2 * g + 1) × (settleBy I f x made b ≡ settleBy I g (moved I x b) (suc made) (mover I (moved I x b)))
+more : (I : Instance) (f : ℕ) (x : Assignment) (made k : ℕ) → squares I x ≤ 2 * f + 1 → squares I (moved I x (suc k)) + 2 ≤ squares I x
+    → (g : ℕ) × (squares I (moved I x (suc k)) ≤ 2 * g + 1)
+    × (settleBy I f x made (suc k) ≡ settleBy I g (moved I x (suc k)) (suc made) (mover I (moved I x (suc k))))
 unfolding settleBy
-more I zero x made b h l d = absurd (omega arith)
-more I (suc f) x made zero h l d = absurd (omega arith)
-more I (suc f) x made (suc b) h l d = (f, omega arith, refl)
+more I zero x made k h d = absurd (omega arith)
+more I (suc f) x made k h d = (f, omega arith, refl)
 
-module _ {I : Instance} {m c : ℕ} {lengths sets : List ℕ} (r : Reads I m c lengths sets) where
-  pub moved-falls : {places loads new loads′ : List ℕ} {b : ℕ} → Placing I m c places loads → 0 < b → mover I (take c places) ≡ b
-      → Moved I m c places new loads′ b → squares I (take c new) + 2 ≤ squares I (take c places)
-  moved-falls {places} {b = b} p l e d =
-      rw (d .assignment) (move-lowers (r .valid) (p .permitted) b (due-improves I (take c places) b l e .1))
+module _ {I : Instance} {m c : ℕ} {lengths sets : List ℕ} (r : Reads I m c lengths sets) {old new loads new′ loads′ : List ℕ} {moves k : ℕ}
+    (run : Run I m c old new loads moves (suc k)) (d : Moved I m c new new′ loads′ (suc k)) where
+  pub moved-falls : squares I (take c new′) + 2 ≤ squares I (take c new)
+  moved-falls =
+      rw (d .assignment) (move-lowers (r .valid) (run .placing .permitted) (suc k) (mover-some I (take c new) k (run .due) .1))
 
-  pub run-more : {old new loads new′ loads′ : List ℕ} {moves b : ℕ} (next : ℕ) → Run I m c old new loads moves b → 0 < b
-      → Moved I m c new new′ loads′ b → next ≡ mover I (take c new′) → Run I m c old new′ loads′ (moves + 1) next
-  run-more {old} {new} {new′ = new′} {moves = moves} {b = b} next k l d e =
-      let fall = moved-falls (k .placing) l (k .due) d in
+  pub run-more : (next : ℕ) → next ≡ mover I (take c new′) → Run I m c old new′ loads′ (moves + 1) next
+  run-more next e =
       let s = d .assignment in
-      let f : squares I (moved I (take c new) b) + 2 ≤ squares I (take c new) = rw s at fall in
-      let z = more I (k .left) (take c new) moves b (k .enough) l f in
+      let f : squares I (moved I (take c new) (suc k)) + 2 ≤ squares I (take c new) = rw s at moved-falls in
+      let z = more I (run .left) (take c new) moves k (run .enough) f in
       record {
         placing = d .placing;
-        rest = d .rest ∙ k .rest;
+        rest = d .rest ∙ run .rest;
         due = sym e;
         left = z .0;
         enough = rw s (z .1);
-        same = rw (add-one moves, e, s) (sym (z .2) ∙ k .same);
-        paid = omega (arith, k .paid, fall);
+        same = rw (add-one moves, e, s) (sym (z .2) ∙ run .same);
+        paid = omega (arith, run .paid, moved-falls);
       }
 
 pub run-end : {I : Instance} {m c : ℕ} {old new loads : List ℕ} {moves next : ℕ} → Run I m c old new loads moves next → next ≡ 0

@@ -10,17 +10,16 @@ use lib.Dec.{eqb}
 use borrow.Author.Tests.{le-leb, lt-leb}
 use Rattle.rules.specs.Fold.{pick, at, sumTo, maxTo, thoseTo}
 use Rattle.rules.specs.Sheet.{Book}
-use Rattle.rules.specs.Instance.{Instance, n, instance, places, minutesOf}
+use Rattle.rules.specs.Instance.{Instance, instance, places, minutesOf}
 use Rattle.rules.specs.Load.{longest, total}
 use Rattle.rules.specs.Group.{trial, passed}
 use Rattle.rules.specs.Run.{answer}
 use Rattle.theory.proofs.Valid.{Permitted}
-use Rattle.theory.proofs.Fold.{sumTo-ext, sumTo-bound}
-use Rattle.theory.proofs.Makespan.{max-le}
+use Rattle.theory.proofs.Fold.{sumTo-ext}
 use Rattle.sheet.specs.declared.Refusal.the-variants.{Nothing, LevelAbove}
 use Rattle.sheet.specs.Represent.{padded}
 use Rattle.arrays.specs.Sets.{has}
-use Rattle.trials.specs.Reads.{Reads}
+use Rattle.arrays.specs.Reads.{Reads}
 use Rattle.trials.specs.Attempt.{Standing, Tries}
 use Rattle.trials.specs.Grouping.{Holds}
 use Rattle.trials.proofs.Groups.{members-group}
@@ -37,14 +36,6 @@ module _ {I : Instance} {m c : ℕ} {lengths sets : List ℕ} (r : Reads I m c l
   pub longest-is : maxTo c (λ b. at lengths b) ≡ longest I
   unfolding longest
   longest-is = max-agree c _ _ (r .minutes) ∙ ap (λ (k : ℕ). maxTo k (λ b. minutesOf I b)) (sym (r .jobs))
-
-  pub total-few : total I ≤ 288000
-  unfolding total
-  total-few = omega (arith, sumTo-bound (n I) (λ b. minutesOf I b) 1440 (λ b p q. r .short b), r .jobs, r .most)
-
-  pub longest-few : longest I ≤ 1440
-  unfolding longest
-  longest-few = max-le _ _ 1440 (λ b p q. r .short b)
 
 -- ---- the start
 

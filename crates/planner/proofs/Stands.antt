@@ -14,6 +14,7 @@ use Rattle.rules.specs.Fold.{_and_, pick, at}
 use Rattle.rules.specs.Instance.{Instance, Job, n, instance, places, eligible}
 use Rattle.rules.specs.Load.{review}
 use Rattle.theory.proofs.Valid.{Valid, Permitted}
+use Rattle.theory.proofs.Small.{Small}
 use Rattle.theory.proofs.Logic.{byTest}
 use Rattle.sheet.specs.declared.Sheet.{Sheet}
 use Rattle.sheet.specs.Represent.{padded, bookOf, Sound}
@@ -22,7 +23,7 @@ use Rattle.sheet.proofs.Padded.{set-append}
 use Rattle.sheet.proofs.Shown.{view-instruments, view-batches, view-valid, view-short, view-lists, view-taken, minutes-at, marks-at}
 use Rattle.arrays.specs.Sets.{has, SetsOf}
 use Rattle.rules.specs.Sheet.{Book}
-use Rattle.trials.specs.Reads.{Reads}
+use Rattle.arrays.specs.Reads.{Reads}
 use Rattle.planner.specs.declared.Reviewed.{Reviewed}
 use Rattle.planner.specs.declared.laid.Laid.{Laid}
 use Rattle.planner.specs.Laid.{Lays}
@@ -57,6 +58,9 @@ both I b i v =
     (λ t. rw (le-leb i (I .m) (v .ranged b i t .1)) refl)
     (λ t. rw t (byTest (leb i (I .m)) (λ u. rw u refl) (λ u. rw u refl)))
 
+pub view-small : (s : Sheet) → Sound s → Small (instance (bookOf s))
+view-small s v = record { machines = view-instruments s v .1; jobs = view-batches s v; short = view-short s v; lists = view-lists s v }
+
 -- the arrays of a sound sheet, with its marks as sets
 module _ (s : Sheet) (v : Sound s) {m c : ℕ} {lengths flags sets : List ℕ}
     (e : m ≡ instance (bookOf s) .m) (f : c ≡ n (instance (bookOf s)))
@@ -86,8 +90,7 @@ module _ (s : Sheet) (v : Sound s) {m c : ℕ} {lengths flags sets : List ℕ}
     minutes = λ b p q. ap (λ (l : List ℕ). at l b) g ∙ minutes-at (instance (bookOf s)) b;
     masks = mask-is;
     words = word;
-    short = view-short s v;
-    lists = view-lists s v;
+    small = view-small s v;
     valid = view-valid s v;
   }
 

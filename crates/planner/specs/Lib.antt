@@ -1,5 +1,4 @@
 pub mod Settling
-pub mod Suspects
 pub mod Calls
 pub mod Laid
 pub mod Search

@@ -6,7 +6,8 @@ ghost use Rattle.rules.specs.Instance.{Instance};
 ghost use Rattle.rules.specs.Load.{longest, makespan};
 ghost use Rattle.trials.specs.Attempt.{Standing};
 ghost use Rattle.planner.specs.Search.{learned, Sought};
-use arrays::rows::rows_of;
+use arrays::JOBS;
+use arrays::MACHINES;
 use trials::trial::Attempt;
 use trials::trial::try_level;
 
@@ -16,8 +17,8 @@ pub struct Search {
     pub failed1: u32,
     pub group: u32,
     pub level: u32,
-    pub places: [u8; 200],
-    pub loads: [u32; 24],
+    pub places: [u8; JOBS],
+    pub loads: [u32; MACHINES],
     pub lifts: u32,
     pub pushes: u32,
 }
@@ -55,8 +56,8 @@ fn learn(s: Search, a: u32, t: Attempt) -> Search
 
 // From places of this makespan until no level is left between the highest failed and the one kept.
 pub fn balance(
-    places: [u8; 200],
-    loads: [u32; 24],
+    places: [u8; JOBS],
+    loads: [u32; MACHINES],
     minutes: &[u16],
     masks: &[u32],
     m: usize,
@@ -78,10 +79,9 @@ pub fn balance(
         lifts: 0,
         pushes: 0,
     };
-    let rows = rows_of(&places, n);
     while s.failed1 < s.level {
         let a = (s.failed1 + s.level - 1) / 2;
-        let t = try_level(places, loads, rows, minutes, masks, m, n, a, a + most);
+        let t = try_level(places, loads, minutes, masks, m, n, a, a + most);
         s = learn(s, a, t);
     }
     s

@@ -10,7 +10,6 @@ use crate::Tried;
 use crate::improve::first_improving;
 use crate::laid::lay;
 use crate::plan::draw;
-use arrays::rows::rows_of;
 use arrays::scan::largest;
 use arrays::scan::largest_load;
 use arrays::scan::total;
@@ -74,18 +73,7 @@ pub fn trial(sheet: Sheet, level: u32) -> Tried
     let places = a.places;
     let loads = a.loads;
     let limit = level + largest(&minutes, a.n);
-    let rows = rows_of(&places, a.n);
-    let t = try_level(
-        places,
-        loads,
-        rows,
-        &minutes,
-        &masks,
-        a.m,
-        a.n,
-        level,
-        limit,
-    );
+    let t = try_level(places, loads, &minutes, &masks, a.m, a.n, level, limit);
     if t.passed {
         let kept = t.places;
         let shown = front(kept, a.n);

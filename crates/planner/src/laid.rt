@@ -1,8 +1,10 @@
 // A sheet in arrays, as review, trials and planning need it.
 ghost use Rattle.sheet.specs.Represent.{Sound, bookOf};
 ghost use Rattle.planner.specs.Laid.{Lays};
+use arrays::JOBS;
+use arrays::MACHINES;
 use arrays::scan::loads_of;
-use arrays::setup::masks_of;
+use arrays::sets::masks_of;
 use sheet::Sheet;
 
 // How many machines and jobs; each job's minutes, the set of machines that it may run on, and its place; and the loads, 0 past the
@@ -10,10 +12,10 @@ use sheet::Sheet;
 pub struct Laid {
     pub m: usize,
     pub n: usize,
-    pub minutes: [u16; 200],
-    pub masks: [u32; 200],
-    pub places: [u8; 200],
-    pub loads: [u32; 24],
+    pub minutes: [u16; JOBS],
+    pub masks: [u32; JOBS],
+    pub places: [u8; JOBS],
+    pub loads: [u32; MACHINES],
 }
 
 pub fn lay(sheet: Sheet) -> Laid

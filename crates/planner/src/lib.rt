@@ -8,7 +8,6 @@ pub mod improve;
 pub mod laid;
 pub mod plan;
 pub mod settle;
-pub mod suspects;
 
 // What a review answers: the load of each machine, 0 past the last, the greatest, and the lowest job that would finish earlier
 // elsewhere, 0 where none would.

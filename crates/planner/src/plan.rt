@@ -6,6 +6,8 @@ ghost use Rattle.trials.specs.Attempt.{Standing};
 ghost use Rattle.planner.specs.Drawing.{Draws};
 use crate::balance::balance;
 use crate::settle::settle;
+use arrays::JOBS;
+use arrays::MACHINES;
 use arrays::scan::largest;
 use arrays::scan::largest_load;
 use trials::group::bound_of;
@@ -20,14 +22,14 @@ pub struct Drawn {
     pub pushes: u32,
     pub moves: u64,
     pub size: usize,
-    pub group: [u8; 24],
-    pub places: [u8; 200],
+    pub group: [u8; MACHINES],
+    pub places: [u8; JOBS],
 }
 
 // The plan from these places, whose loads are `loads`.
 pub fn draw(
-    places: [u8; 200],
-    loads: [u32; 24],
+    places: [u8; JOBS],
+    loads: [u32; MACHINES],
     minutes: &[u16],
     masks: &[u32],
     m: usize,

@@ -15,7 +15,7 @@ use Rattle.rules.specs.Render.{columns, fields, renderBatches, render, f
 use Rattle.rules.specs.Edit.{add, withdraw, requalify, move, kept, edit}
 use Rattle.rules.specs.Load.{load, makespan, longest, total, elsewhere, improvesAt, improves, review}
 use Rattle.rules.specs.Settle.{mover, target, moved, squares, settleBy, settle}
-use Rattle.rules.specs.Trial.{underloaded, overloaded, unplaced, machineArc, jobArc, liftOver, pushOr, deed, jobDeed, machineDeed, someUnderloaded, actMachine, actJob, act, stepsBy, liftBound, pushBound, ended}
+use Rattle.rules.specs.Trial.{atLevel, underloaded, overloaded, unplaced, machineArc, jobArc, liftOver, pushOr, deed, jobDeed, machineDeed, someUnderloaded, actMachine, actJob, act, stepsBy, liftBound, pushBound, endedBy}
 use Rattle.rules.specs.Group.{overflows, reach, reachBy, closure, group, passed, failed, trial}
 use Rattle.rules.specs.Balance.{searchBy, balance}
 use Rattle.rules.specs.LowerBound.{within, confined, share, lowerBound}
@@ -282,5 +282,5 @@ said t = map (λ (r : Row). r .says) t
 
 -- the rules say what the table says
 cases : asked table ≡ said table
-unfolding table bytes lines _and_ _or_ mem every sumTo most maxTo orElse firstTo anyTo allTo lesser leastTo greater greatestTo thoseTo listTo isBatch goodInstruments goodMinutes isInstrument distinct goodList goodBatch sound digits loneZero blanks field numberAt endOfLine headLine instrumentsAt batchLine batchLines read columns fields renderBatches render fitsBatch fits kept edit load makespan longest total elsewhere improvesAt improves review mover target moved squares settleBy settle underloaded overloaded unplaced machineArc jobArc liftOver pushOr deed jobDeed machineDeed someUnderloaded actMachine actJob act stepsBy liftBound pushBound ended overflows reach reachBy closure group trial searchBy balance within confined share lowerBound plan answer next answers batchListing listing program host
+unfolding table bytes lines _and_ _or_ mem every sumTo most maxTo orElse firstTo anyTo allTo lesser leastTo greater greatestTo thoseTo listTo isBatch goodInstruments goodMinutes isInstrument distinct goodList goodBatch sound digits loneZero blanks field numberAt endOfLine headLine instrumentsAt batchLine batchLines read columns fields renderBatches render fitsBatch fits kept edit load makespan longest total elsewhere improvesAt improves review mover target moved squares settleBy settle atLevel underloaded overloaded unplaced machineArc jobArc liftOver pushOr deed jobDeed machineDeed someUnderloaded actMachine actJob act stepsBy liftBound pushBound endedBy overflows reach reachBy closure group trial searchBy balance within confined share lowerBound plan answer next answers batchListing listing program host
 cases = refl

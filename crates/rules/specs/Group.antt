@@ -6,10 +6,10 @@ use mathlib.Core.List.{List}
 use lib.Dec.{eqb}
 use Rattle.rules.specs.Fold.{_and_, _or_, pick, at, mem, firstTo, anyTo, thoseTo}
 use Rattle.rules.specs.Instance.{Instance, Assignment, n, eligible}
-use Rattle.rules.specs.Trial.{State, overloaded, unplaced, someUnderloaded, ended}
+use Rattle.rules.specs.Trial.{Limits, atLevel, State, overloaded, unplaced, someUnderloaded, ended}
 
 -- something overflows: a job without a place, or an overloaded machine
-unfoldable pub overflows : Instance → ℕ → State → Bool
+unfoldable pub overflows : Instance → Limits → State → Bool
 overflows I a s = anyTo (n I) (λ b. unplaced s b) or anyTo (I .m) (λ i. overloaded I a s i)
 
 -- one round: the machines of g, and every machine that a job on g may run on
@@ -26,7 +26,7 @@ unfoldable pub closure : Instance → Assignment → ℕ → List ℕ
 closure I x i = reachBy I x (I .m) (thoseTo (I .m) (λ j. eqb j i))
 
 -- all machines where none is underloaded; otherwise the closure of the lowest overloaded machine
-unfoldable pub group : Instance → ℕ → State → List ℕ
+unfoldable pub group : Instance → Limits → State → List ℕ
 group I a s =
     pick (someUnderloaded I a s)
     (closure I (s .assignment) (firstTo (I .m) (λ i. overloaded I a s i)))
@@ -38,9 +38,9 @@ pub data Tried : Type 0 where
   failed : List ℕ → ℕ → ℕ → Tried
 
 -- a trial that ends in s passes where nothing overflows then
-abbrev pub verdict : Instance → ℕ → State → Tried
+abbrev pub verdict : Instance → Limits → State → Tried
 verdict I a s =
     pick (overflows I a s) (failed (group I a s) (s .lifts) (s .pushes)) (passed (s .assignment) (s .lifts) (s .pushes))
 
 unfoldable pub trial : Instance → Assignment → ℕ → Tried
-trial I x a = verdict I a (ended I x a)
+trial I x a = verdict I (atLevel I a) (ended I x a)

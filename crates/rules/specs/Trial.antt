@@ -10,6 +10,15 @@ use Rattle.rules.specs.Fold.{_and_, _or_, pick, at, put, sumTo, firstTo,
 use Rattle.rules.specs.Instance.{Instance, Assignment, n, listOf}
 use Rattle.rules.specs.Load.{load, longest, elsewhere}
 
+-- two loads for each machine: up to low it is underloaded, above high overloaded
+pub record Limits : Type 0 where
+  pub low : ℕ → ℕ
+  pub high : ℕ → ℕ
+
+-- at level a: a, and a plus the longest length, for every machine
+unfoldable pub atLevel : Instance → ℕ → Limits
+atLevel I a = record { low = λ i. a; high = λ i. a + longest I }
+
 -- what passes from step to step: the assignment, the heights, and how many lifts and pushes were made
 pub record State : Type 0 where
   pub assignment : Assignment
@@ -28,15 +37,13 @@ start I x = record {
   pushes = 0;
 }
 
--- ---- at level a
+-- ---- at limits a
 
--- load at most a
-unfoldable pub underloaded : Instance → ℕ → State → ℕ → Bool
-underloaded I a s i = leb (load I (s .assignment) i) a
+unfoldable pub underloaded : Instance → Limits → State → ℕ → Bool
+underloaded I a s i = leb (load I (s .assignment) i) (a .low i)
 
--- load above a plus the longest length
-unfoldable pub overloaded : Instance → ℕ → State → ℕ → Bool
-overloaded I a s i = ltb (a + longest I) (load I (s .assignment) i)
+unfoldable pub overloaded : Instance → Limits → State → ℕ → Bool
+overloaded I a s i = ltb (a .high i) (load I (s .assignment) i)
 
 unfoldable pub unplaced : State → ℕ → Bool
 unplaced s b = eqb (at (s .assignment) b) 0
@@ -85,7 +92,7 @@ pub data Act : Type 0 where
   byJob : ℕ → Deed → Act
   byMachine : ℕ → Deed → Act
 
-module _ (I : Instance) (a : ℕ) where
+module _ (I : Instance) (a : Limits) where
   unfoldable pub jobDeed : State → ℕ → Deed
   jobDeed s b =
       pick (unplaced s b) (deed (I .m) (λ i. jobArc I s b i) (λ i. at (s .machineHeights) i) (at (s .jobHeights) b)) nothing
@@ -144,7 +151,7 @@ after s (byMachine i (lift h)) = record {
 }
 
 -- at most f steps from s; x is what acts at s
-unfoldable pub stepsBy : Instance → ℕ → ℕ → State → Act → State
+unfoldable pub stepsBy : Instance → Limits → ℕ → State → Act → State
 stepsBy I a zero s x = s
 stepsBy I a (suc f) s rest = s
 stepsBy I a (suc f) s (byJob b d) = let t = after s (byJob b d) in stepsBy I a f t (act I a t)
@@ -160,5 +167,9 @@ pushBound I = (4 * I .m + 4) * sumTo (n I) (λ b. length (listOf I b))
 
 -- Where a trial from the assignment x ends. Each step is a lift or a push, so both bounds together are enough steps: a
 -- trial ends because it rests, and never because they ran out (theory, Ending).
-unfoldable pub ended : Instance → Assignment → ℕ → State
-ended I x a = stepsBy I a (liftBound I + pushBound I) (start I x) (act I a (start I x))
+unfoldable pub endedBy : Instance → Assignment → Limits → State
+endedBy I x a = stepsBy I a (liftBound I + pushBound I) (start I x) (act I a (start I x))
+
+-- the same at level a
+abbrev pub ended : Instance → Assignment → ℕ → State
+ended I x a = endedBy I x (atLevel I a)

@@ -10,11 +10,12 @@ use native.Mathlib.Omega.{arith}
 use borrow.Author.Tests.{ltb-true, ltb-false}
 use Rattle.rules.specs.Instance.{Instance, Assignment}
 use Rattle.rules.specs.Load.{load, longest, makespan}
-use Rattle.rules.specs.Trial.{ended, liftBound, pushBound}
+use Rattle.rules.specs.Trial.{atLevel, ended, liftBound, pushBound}
 use Rattle.rules.specs.Group.{Tried, passed, failed, trial}
 use Rattle.rules.specs.Balance.{Search, middle, learn, open-gap, searchBy, standing, balance}
 use Rattle.theory.proofs.Valid.{Valid, Permitted}
 use Rattle.theory.proofs.Makespan.{makespan-ge}
+use Rattle.theory.proofs.Heights.{permitted-partial}
 use Rattle.theory.proofs.Ending.{trial-lifts, trial-pushes}
 use Rattle.theory.proofs.Trial.{Shows, Outcome, passes, fails, outcome, trial-permitted}
 use Rattle.theory.proofs.Quiet.{pass-no-later}
@@ -59,13 +60,13 @@ module _ (I : Instance) (x : Assignment) (v : Valid I) (w : Permitted I x) where
   learned s a k l u (passes p) = record {
     gap = l;
     below = omega (arith, k .below);
-    permitted = trial-permitted I x v w a;
+    permitted = trial-permitted I x v w (atLevel I a);
     loads = p .loads;
     noLater = pass-no-later I x v w a p;
     shown = k .shown;
     counts = made a;
-    lifts = trial-lifts I x v w a;
-    pushes = trial-pushes I x v w a;
+    lifts = trial-lifts I x (permitted-partial w) (atLevel I a);
+    pushes = trial-pushes I x (permitted-partial w) (atLevel I a);
   }
   learned s a k l u (fails g f) = record {
     gap = u;

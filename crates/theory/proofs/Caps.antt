@@ -7,15 +7,14 @@ use mathlib.Core.Bool.{true}
 use native.Mathlib.Omega.{arith}
 use Rattle.rules.specs.Fold.{at}
 use Rattle.rules.specs.Instance.{Instance, Assignment, n, eligible}
-use Rattle.rules.specs.Trial.{State, Act, lift, byMachine, act, after, start, jobArc}
+use Rattle.rules.specs.Trial.{Limits, State, Act, lift, byMachine, act, after, start, jobArc}
 use Rattle.theory.proofs.Logic.{conflict}
-use Rattle.theory.proofs.Valid.{Valid, Permitted, on-machine}
 use Rattle.theory.proofs.Step.{Step, step, job-can}
 use Rattle.theory.proofs.Heights.{Shape, machineArc-eq, jobArc-mk, jobArc-eligible, unplaced-mk, put-cases, at-zeros}
 
 -- a job that waits: low, or with an arc's end just below it
 pub data Waits (I : Instance) (s : State) (b : ℕ) : Type 0 where
-  low : at (s .jobHeights) b < 2 * I .m → Waits I s b
+  low : at (s .jobHeights) b ≤ 2 * I .m → Waits I s b
   ready : (j : ℕ) → 0 < j → j ≤ I .m → eligible I b j ≡ true → at (s .jobHeights) b ≡ suc (at (s .machineHeights) j) → Waits I s b
 
 pub record Caps (I : Instance) (s : State) : Type 0 where
@@ -27,7 +26,7 @@ pub record Caps (I : Instance) (s : State) : Type 0 where
 pub lifted-low : {I : Instance} {s : State} {b : ℕ} (i : ℕ) → Waits I s b → at (s .assignment) b ≡ 0
     → at (s .jobHeights) b ≤ at (s .machineHeights) i
     → ((j : ℕ) → 0 < j → j ≤ I .m → jobArc I s b j ≡ true → at (s .machineHeights) i ≤ at (s .machineHeights) j)
-    → at (s .jobHeights) b < 2 * I .m
+    → at (s .jobHeights) b ≤ 2 * I .m
 lifted-low i (low h) e l y = h
 lifted-low {I} {s} {b} i (ready j p q r h) e l y =
     absurd (omega (arith, y j p q (jobArc-mk I s b j r (λ z. omega arith))))
@@ -38,7 +37,7 @@ waits-same : {I : Instance} {s t : State} {b : ℕ} → at (t .jobHeights) b ≡
 waits-same e f (low g) = low (omega arith)
 waits-same {s = s} {t = t} e f (ready j p q r g) = ready j p q r (e ∙ g ∙ (rw f))
 
-keep : {I : Instance} {a : ℕ} {s : State} {x : Act} → Step I a s x → Shape I s → Caps I s → Caps I (after s x)
+keep : {I : Instance} {a : Limits} {s : State} {x : Act} → Step I a s x → Shape I s → Caps I s → Caps I (after s x)
 keep (Step.noUnderloaded t) v c = c
 keep (Step.stuck _ y z) v c = c
 keep {I} {a} {s} (Step.jobPush b i lb li u e h) v c = record {
@@ -79,12 +78,12 @@ keep {I} {a} {s} (Step.machineLift f i b li lb u o e h y) v c = record {
     still d d0 dn z (ready j p q r g) =
         conflict (job-can I a s d j (unplaced-mk s d z) p q (jobArc-mk I s d j r (λ w. omega arith)) g) (f d d0 dn)
 
-pub caps-step : (I : Instance) (a : ℕ) (s : State) → Shape I s → Caps I s → Caps I (after s (act I a s))
+pub caps-step : (I : Instance) (a : Limits) (s : State) → Shape I s → Caps I s → Caps I (after s (act I a s))
 caps-step I a s v c = keep (step I a s) v c
 
-pub caps-start : (I : Instance) (x : Assignment) → Valid I → Permitted I x → Caps I (start I x)
-caps-start I x v w = record {
-  waits = λ b p q e. absurd (omega (arith, on-machine v w b p q .0));
+pub caps-start : (I : Instance) (x : Assignment) → Caps I (start I x)
+caps-start I x = record {
+  waits = λ b p q e. low (omega (arith, at-zeros (n I) b));
   machineCap = λ i. omega (arith, at-zeros (I .m) i);
   jobCap = λ b. omega (arith, at-zeros (n I) b);
 }

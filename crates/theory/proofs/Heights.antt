@@ -14,10 +14,10 @@ use borrow.Author.Tests.{eqb-true, eq-eqb, ne-eqb}
 use Rattle.rules.specs.Fold.{_and_, at, put}
 use Rattle.rules.specs.Instance.{Instance, Assignment, n, eligible}
 use Rattle.rules.specs.Load.{elsewhere}
-use Rattle.rules.specs.Trial.{State, Act, act, after, start, unplaced, jobArc, machineArc}
+use Rattle.rules.specs.Trial.{Limits, State, Act, act, after, start, unplaced, jobArc, machineArc}
 use Rattle.theory.proofs.Logic.{and-left, and-mk}
 use Rattle.theory.proofs.Fold.{length-put, at-put-same, at-put-other}
-use Rattle.theory.proofs.Valid.{Permitted}
+use Rattle.theory.proofs.Valid.{Permitted, Partial}
 use Rattle.theory.proofs.Step.{Step, step}
 
 -- ---- arcs, as facts
@@ -97,7 +97,7 @@ pub record Shape (I : Instance) (s : State) : Type 0 where
   -- a machine is at most one higher than a job on it
   pub machineLow : (b i : ℕ) → 0 < i → at (s .assignment) b ≡ i → at (s .machineHeights) i ≤ suc (at (s .jobHeights) b)
 
-keep : {I : Instance} {a : ℕ} {s : State} {x : Act} → Step I a s x → Shape I s → Shape I (after s x)
+keep : {I : Instance} {a : Limits} {s : State} {x : Act} → Step I a s x → Shape I s → Shape I (after s x)
 keep (Step.noUnderloaded t) v = v
 keep (Step.stuck _ y z) v = v
 keep {I} {a} {s} (Step.jobPush b i lb li u e h) v = record {
@@ -148,21 +148,22 @@ keep {I} {a} {s} (Step.machineLift _ i b li lb u o e h y) v = record {
       (λ z w. omega (arith, w, v .machineLow c j j0 r));
 }
 
-pub shape-step : (I : Instance) (a : ℕ) (s : State) → Shape I s → Shape I (after s (act I a s))
+pub shape-step : (I : Instance) (a : Limits) (s : State) → Shape I s → Shape I (after s (act I a s))
 shape-step I a s v = keep (step I a s) v
 
--- a machine above 0 in an assignment is on the list
-pub listed-of : {I : Instance} {x : Assignment} → Permitted I x → (b i : ℕ) → 0 < i → at x b ≡ i → eligible I b i ≡ true
-listed-of {I} {x} w b i i0 e =
-    let g = at-in x b (omega arith) in
-    rw (← e) (w .listed b (g .0) (omega (arith, w .size)))
-
-pub shape-start : (I : Instance) (x : Assignment) → Permitted I x → Shape I (start I x)
+pub shape-start : (I : Instance) (x : Assignment) → Partial I x → Shape I (start I x)
 shape-start I x w = record {
   jobs = w .size;
   machines = length-replicate (I .m) 0;
   heights = length-replicate (n I) 0;
-  listed = listed-of w;
+  listed = w .listed;
   jobLow = λ b i i0 im e. omega (arith, at-zeros (n I) b);
   machineLow = λ b i i0 e. omega (arith, at-zeros (I .m) i);
+}
+
+-- a trial may start from a permitted assignment
+pub permitted-partial : {I : Instance} {x : Assignment} → Permitted I x → Partial I x
+permitted-partial {I} {x} w = record {
+  size = w .size;
+  listed = λ b i i0 e. let g = at-in x b (omega arith) in rw (← e) (w .listed b (g .0) (omega (arith, w .size)));
 }

@@ -1,6 +1,7 @@
 pub mod Logic
 pub mod Fold
 pub mod View
+pub mod Agree
 pub mod Member
 pub mod Those
 pub mod Valid
@@ -17,10 +18,12 @@ pub mod Closure
 pub mod Makespan
 pub mod Review
 pub mod Square
+pub mod Small
 pub mod Move
 pub mod Settling
 pub mod Confined
 pub mod Tall
+pub mod Rested
 pub mod Trial
 pub mod Quiet
 pub mod Balancing
@@ -31,5 +34,4 @@ pub mod Sound
 pub mod Planning
 pub mod Runs
 pub mod Iterate
-pub mod Turn
-pub mod Handed
+pub mod Acting

@@ -5,7 +5,7 @@ use native.Mathlib.Nat.{le-step, le-trans}
 use native.Mathlib.Omega.{arith}
 use Rattle.rules.specs.Fold.{at, put, sumTo}
 use Rattle.rules.specs.Instance.{Instance, n}
-use Rattle.rules.specs.Trial.{State, Act, act, after, liftBound}
+use Rattle.rules.specs.Trial.{Limits, State, Act, act, after, liftBound}
 use Rattle.theory.proofs.Fold.{at-put-same, sumTo-gain, sumTo-bound}
 use Rattle.theory.proofs.Step.{Step, step}
 use Rattle.theory.proofs.Heights.{Shape, unplaced-eq, at-put-up}
@@ -25,7 +25,7 @@ climbed-le I s =
       sumTo-bound (n I) (λ b. min (at (s .jobHeights) b) (2 * I .m + 2)) (2 * I .m + 2) (λ b p q. omega arith),
     )
 
-paid : {I : Instance} {a : ℕ} {s : State} {x : Act} → Step I a s x → Shape I s → Caps I s → s .lifts ≤ climbed I s → after s x .lifts ≤ climbed I (after s x)
+paid : {I : Instance} {a : Limits} {s : State} {x : Act} → Step I a s x → Shape I s → Caps I s → s .lifts ≤ climbed I s → after s x .lifts ≤ climbed I (after s x)
 unfolding climbed
 paid (Step.noUnderloaded t) v c r = r
 paid (Step.stuck _ y z) v c r = r
@@ -50,7 +50,7 @@ paid {I} {a} {s} (Step.machineLift f i b li lb u o e h y) v c r =
     (omega arith) in
     omega arith
 
-pub lifts-step : (I : Instance) (a : ℕ) (s : State) → Shape I s → Caps I s → s .lifts ≤ climbed I s
+pub lifts-step : (I : Instance) (a : Limits) (s : State) → Shape I s → Caps I s → s .lifts ≤ climbed I s
     → after s (act I a s) .lifts ≤ climbed I (after s (act I a s))
 lifts-step I a s v c r = paid (step I a s) v c r
 

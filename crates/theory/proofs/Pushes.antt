@@ -14,7 +14,7 @@ use lib.Dec.{eqb}
 use borrow.Author.Tests.{eqb-true, eq-eqb, ne-eqb}
 use Rattle.rules.specs.Fold.{_or_, pick, at, put, mem, sumTo}
 use Rattle.rules.specs.Instance.{Instance, n, listOf, eligible}
-use Rattle.rules.specs.Trial.{State, Act, act, after, pushBound}
+use Rattle.rules.specs.Trial.{Limits, State, Act, act, after, pushBound}
 use Rattle.theory.proofs.Logic.{byTest}
 use Rattle.theory.proofs.Fold.{at-put-same, at-put-other, sumTo-mono, sumTo-gain, sumTo-bound, sumTo-scale, sumTo-add}
 use Rattle.theory.proofs.Step.{Step, step}
@@ -72,7 +72,7 @@ edge-same : (I : Instance) (ps ps′ hi bh : List ℕ) (b j : ℕ) → at ps b �
 unfolding edge
 edge-same I ps ps′ hi bh b j e e′ = rw (ne-eqb (at ps b) j e, ne-eqb (at ps′ b) j e′)
 
-turns : {I : Instance} {a : ℕ} {s : State} {x : Act} → Step I a s x → Shape I s → s .pushes ≤ turned I (s .assignment) (s .machineHeights) (s .jobHeights)
+turns : {I : Instance} {a : Limits} {s : State} {x : Act} → Step I a s x → Shape I s → s .pushes ≤ turned I (s .assignment) (s .machineHeights) (s .jobHeights)
     → after s x .pushes ≤ turned I (after s x .assignment) (after s x .machineHeights) (after s x .jobHeights)
 turns (Step.noUnderloaded t) v r = r
 turns (Step.stuck _ y z) v r = r
@@ -159,7 +159,7 @@ turned-le I s v =
     (mul-le-mul-left (2 * I .m + 3) (mem-count (listOf I b) (I .m))))))
     (le-of-eq (sumTo-scale (n I) (λ b. length (listOf I b)) (2 * I .m + 3)))
 
-pub pushes-step : (I : Instance) (a : ℕ) (s : State) → Shape I s → s .pushes ≤ turned I (s .assignment) (s .machineHeights) (s .jobHeights)
+pub pushes-step : (I : Instance) (a : Limits) (s : State) → Shape I s → s .pushes ≤ turned I (s .assignment) (s .machineHeights) (s .jobHeights)
     → after s (act I a s) .pushes ≤ turned I (after s (act I a s) .assignment) (after s (act I a s) .machineHeights) (after s (act I a s) .jobHeights)
 pushes-step I a s v r = turns (step I a s) v r
 

@@ -8,7 +8,7 @@ use native.Mathlib.Decide.{decLe}
 use Rattle.rules.specs.Fold.{at}
 use Rattle.rules.specs.Instance.{Instance, Assignment}
 use Rattle.rules.specs.Load.{load, longest, makespan}
-use Rattle.rules.specs.Trial.{State, Act, rest, act, start, ended, stepsBy, overloaded}
+use Rattle.rules.specs.Trial.{Limits, atLevel, State, Act, rest, act, start, ended, endedBy, stepsBy, overloaded}
 use Rattle.rules.specs.Group.{Tried, passed, trial}
 use Rattle.theory.proofs.View.{Some, here}
 use Rattle.theory.proofs.Valid.{Valid, Permitted, on-machine}
@@ -19,8 +19,8 @@ use Rattle.theory.proofs.Steps.{stays}
 use Rattle.theory.proofs.Underloaded.{overloaded-gt}
 use Rattle.theory.proofs.Trial.{Outcome, passes, fails, outcome, Passes}
 
-module _ (I : Instance) (x : Assignment) (v : Valid I) (w : Permitted I x) (a : ℕ) where
-  module _ (calm : (i : ℕ) → 0 < i → i ≤ I .m → load I x i ≤ a + longest I) where
+module _ (I : Instance) (x : Assignment) (v : Valid I) (w : Permitted I x) where
+  module _ (a : Limits) (calm : (i : ℕ) → 0 < i → i ≤ I .m → load I x i ≤ a .high i) where
     quiet : {d : Act} → Step I a (start I x) d → d ≡ rest
     quiet (Step.noUnderloaded t) = refl
     quiet (Step.stuck t y z) = refl
@@ -33,24 +33,32 @@ module _ (I : Instance) (x : Assignment) (v : Valid I) (w : Permitted I x) (a : 
     still f s d e = rw e (stays I a f s)
 
     -- nothing is overloaded: the trial ends where it starts
-    pub quiet-end : ended I x a ≡ start I x
-    unfolding ended
+    pub quiet-end : endedBy I x a ≡ start I x
+    unfolding endedBy
     quiet-end = still _ (start I x) (act I a (start I x)) (quiet (step I a (start I x)))
 
+  -- ---- at a level
+
+  module _ (a : ℕ) (calm : (i : ℕ) → 0 < i → i ≤ I .m → load I x i ≤ a + longest I) where
+    level-end : ended I x a ≡ start I x
+    unfolding atLevel
+    level-end = quiet-end (atLevel I a) calm
+
     pub quiet-passes : trial I x a ≡ passed x 0 0
+    unfolding atLevel
     quiet-passes = from (outcome I x v w a)
       where
         from : {t : Tried} → Outcome I x v w a t → t ≡ passed x 0 0
-        from (passes p) = rw quiet-end
+        from (passes p) = rw level-end
         from (fails g f) = absurd (loud (f .over))
           where
-            loud : Some (I .m) (λ i. overloaded I a (ended I x a) i) → ⊥
-            loud (here i p q o) = omega (arith, calm i p q, overloaded-gt I a (start I x) i (rw quiet-end at o))
+            loud : Some (I .m) (λ i. overloaded I (atLevel I a) (ended I x a) i) → ⊥
+            loud (here i p q o) = omega (arith, calm i p q, overloaded-gt I (atLevel I a) (start I x) i (rw level-end at o))
 
   -- a pass never ends later than the standing assignment
-  pub pass-no-later : Passes I x v w a (ended I x a) → makespan I (ended I x a .assignment) ≤ makespan I x
-  pass-no-later p =
+  pub pass-no-later : (a : ℕ) → Passes I x v w a (ended I x a) → makespan I (ended I x a .assignment) ≤ makespan I x
+  pass-no-later a p =
       elim (decLe (makespan I x) (a + longest I)) [
-        | yes h ↦ rw (quiet-end (λ i i0 im. omega (arith, makespan-ge I x i i0 im))) (le-refl _)
+        | yes h ↦ rw (level-end a (λ i i0 im. omega (arith, makespan-ge I x i i0 im))) (le-refl _)
         | no h ↦ makespan-le I (ended I x a .assignment) (makespan I x) (λ i i0 im. omega (arith, p .loads i i0 im))
       ]

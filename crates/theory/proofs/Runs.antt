@@ -10,13 +10,14 @@ use Rattle.rules.specs.Read.{read, accepted}
 use Rattle.rules.specs.Edit.{Edit, Edited, refused, edited, edit}
 use Rattle.rules.specs.Instance.{Assignment, instance, places, n}
 use Rattle.rules.specs.Load.{longest, makespan, equilibrium, review}
-use Rattle.rules.specs.Trial.{ended, liftBound, pushBound}
+use Rattle.rules.specs.Trial.{atLevel, ended, liftBound, pushBound}
 use Rattle.rules.specs.Group.{trial}
 use Rattle.rules.specs.LowerBound.{witnessed}
 use Rattle.rules.specs.Run.{Call, editing, reviewing, trying, planning, next, bookAfter, editBook, planBook}
 use Rattle.theory.proofs.Valid.{Valid, Permitted}
 use Rattle.theory.proofs.Sound.{read-sound, edit-sound, sound-valid, sound-permitted, placed-sound, placed-places, placed-instance, jobs-count}
 use Rattle.theory.proofs.Review.{Improves, review-settled, settled-review, settled-none, none-settled}
+use Rattle.theory.proofs.Heights.{permitted-partial}
 use Rattle.theory.proofs.Ending.{trial-lifts, trial-pushes}
 use Rattle.theory.proofs.Trial.{Outcome, outcome}
 use Rattle.theory.proofs.Balancing.{Counts}
@@ -85,8 +86,8 @@ sound-claims k e =
         unsettled = λ h. settled-review I x (none-settled I x h);
       };
       trials = record {
-        lifts = λ a. trial-lifts I x v w a;
-        pushes = λ a. trial-pushes I x v w a;
+        lifts = λ a. trial-lifts I x (permitted-partial w) (atLevel I a);
+        pushes = λ a. trial-pushes I x (permitted-partial w) (atLevel I a);
         valid = v;
         permitted = w;
         outcomes = λ a. outcome I x v w a;

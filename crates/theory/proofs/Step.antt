@@ -8,7 +8,7 @@ use lib.Dec.{leb, eqb}
 use borrow.Author.Tests.{leb-true, leb-false, eqb-true, eq-eqb}
 use Rattle.rules.specs.Fold.{_and_, at}
 use Rattle.rules.specs.Instance.{Instance, n}
-use Rattle.rules.specs.Trial.{State, Deed, nothing, push, lift, can, liftOver, pushOr, deed, jobDeed, machineDeed, Act, rest, byJob, byMachine, actMachine, actJob, act, someUnderloaded, unplaced, overloaded, jobArc, machineArc}
+use Rattle.rules.specs.Trial.{Limits, State, Deed, nothing, push, lift, can, liftOver, pushOr, deed, jobDeed, machineDeed, Act, rest, byJob, byMachine, actMachine, actJob, act, someUnderloaded, unplaced, overloaded, jobArc, machineArc}
 use Rattle.theory.proofs.Logic.{byTest, conflict, and-left, and-right, and-mk}
 use Rattle.theory.proofs.View.{None, First, first, Least, least}
 
@@ -37,7 +37,7 @@ deeds c arc high h = deeds-of (first c _) (least c arc high)
 
 -- ---- what acts
 
-pub data Acts (I : Instance) (a : ℕ) (s : State) : Act → Type 0 where
+pub data Acts (I : Instance) (a : Limits) (s : State) : Act → Type 0 where
   noUnderloaded : someUnderloaded I a s ≡ false → Acts I a s rest
   stuck : someUnderloaded I a s ≡ true → None (n I) (λ b. can (jobDeed I a s b)) → None (I .m) (λ i. can (machineDeed I a s i)) → Acts I a s rest
   job : (b : ℕ) → b < n I → None b (λ c. can (jobDeed I a s c)) → can (jobDeed I a s (suc b)) ≡ true
@@ -45,24 +45,24 @@ pub data Acts (I : Instance) (a : ℕ) (s : State) : Act → Type 0 where
   machine : someUnderloaded I a s ≡ true → (i : ℕ) → i < I .m → None (n I) (λ b. can (jobDeed I a s b)) → can (machineDeed I a s (suc i)) ≡ true
       → Acts I a s (byMachine (suc i) (machineDeed I a s (suc i)))
 
-actsI : {I : Instance} {a : ℕ} {s : State} {q : ℕ} → someUnderloaded I a s ≡ true → None (n I) (λ b. can (jobDeed I a s b)) → First (I .m) (λ i. can (machineDeed I a s i)) q
+actsI : {I : Instance} {a : Limits} {s : State} {q : ℕ} → someUnderloaded I a s ≡ true → None (n I) (λ b. can (jobDeed I a s b)) → First (I .m) (λ i. can (machineDeed I a s i)) q
     → Acts I a s (actMachine I a s q)
 unfolding actMachine
 actsI t z (First.found i l e y) = machine t i l z e
 actsI t z (First.nowhere y) = stuck t z y
 
-actsB : {I : Instance} {a : ℕ} {s : State} {r : ℕ} → someUnderloaded I a s ≡ true → First (n I) (λ b. can (jobDeed I a s b)) r → Acts I a s (actJob I a s r)
+actsB : {I : Instance} {a : Limits} {s : State} {r : ℕ} → someUnderloaded I a s ≡ true → First (n I) (λ b. can (jobDeed I a s b)) r → Acts I a s (actJob I a s r)
 unfolding actJob
 actsB t (First.found b l e z) = job b l z e
 actsB {I} t (First.nowhere z) = actsI t z (first (I .m) _)
 
-pub acts : (I : Instance) (a : ℕ) (s : State) → Acts I a s (act I a s)
+pub acts : (I : Instance) (a : Limits) (s : State) → Acts I a s (act I a s)
 unfolding act
 acts I a s = byTest (someUnderloaded I a s) (λ t. rw t (actsB t (first (n I) _))) (λ t. rw t (noUnderloaded t))
 
 -- ---- a step, by cases: each with all that holds of it
 
-pub data Step (I : Instance) (a : ℕ) (s : State) : Act → Type 0 where
+pub data Step (I : Instance) (a : Limits) (s : State) : Act → Type 0 where
   noUnderloaded : someUnderloaded I a s ≡ false → Step I a s rest
   stuck : someUnderloaded I a s ≡ true → None (n I) (λ b. can (jobDeed I a s b)) → None (I .m) (λ i. can (machineDeed I a s i)) → Step I a s rest
   jobPush : (b i : ℕ) → b < n I → i < I .m → unplaced s (suc b) ≡ true → jobArc I s (suc b) (suc i) ≡ true
@@ -78,21 +78,21 @@ pub data Step (I : Instance) (a : ℕ) (s : State) : Act → Type 0 where
       → ((j : ℕ) → 0 < j → j ≤ n I → machineArc s (suc i) j ≡ true → at (s .jobHeights) (suc b) ≤ at (s .jobHeights) j)
       → Step I a s (byMachine (suc i) (lift (suc (at (s .jobHeights) (suc b)))))
 
-stepB : {I : Instance} {a : ℕ} {s : State} (b : ℕ) {d : Deed} → b < n I → unplaced s (suc b) ≡ true
+stepB : {I : Instance} {a : Limits} {s : State} (b : ℕ) {d : Deed} → b < n I → unplaced s (suc b) ≡ true
     → Deeds (I .m) (λ i. jobArc I s (suc b) i) (λ i. at (s .machineHeights) i) (at (s .jobHeights) (suc b)) d → can d ≡ true → Step I a s (byJob (suc b) d)
 stepB b l u (alone z) c = conflict c refl
 stepB b l u (tooHigh _ _ _ _ _) c = conflict c refl
 stepB b l u (pushes j q e h) c = jobPush b j l q u e h
 stepB b l u (lifts j q e h y) c = jobLift b j l q u e h y
 
-stepI : {I : Instance} {a : ℕ} {s : State} (i : ℕ) {d : Deed} → someUnderloaded I a s ≡ true → None (n I) (λ b. can (jobDeed I a s b)) → i < I .m → overloaded I a s (suc i) ≡ true → at (s .machineHeights) (suc i) ≤ 2 * I .m
+stepI : {I : Instance} {a : Limits} {s : State} (i : ℕ) {d : Deed} → someUnderloaded I a s ≡ true → None (n I) (λ b. can (jobDeed I a s b)) → i < I .m → overloaded I a s (suc i) ≡ true → at (s .machineHeights) (suc i) ≤ 2 * I .m
     → Deeds (n I) (λ b. machineArc s (suc i) b) (λ b. at (s .jobHeights) b) (at (s .machineHeights) (suc i)) d → can d ≡ true → Step I a s (byMachine (suc i) d)
 stepI i t f l u v (alone z) c = conflict c refl
 stepI i t f l u v (tooHigh _ _ _ _ _) c = conflict c refl
 stepI i t f l u v (pushes j q e h) c = machinePush t f i j l q u v e h
 stepI i t f l u v (lifts j q e h y) c = machineLift f i j l q u v e h y
 
-step-of : {I : Instance} {a : ℕ} {s : State} {x : Act} → Acts I a s x → Step I a s x
+step-of : {I : Instance} {a : Limits} {s : State} {x : Act} → Acts I a s x → Step I a s x
 unfolding jobDeed machineDeed
 step-of (Acts.noUnderloaded t) = noUnderloaded t
 step-of (Acts.stuck t y z) = stuck t y z
@@ -105,7 +105,7 @@ step-of {I} {a} {s} (machine g i l z c) =
     (λ t. rw t (stepI i g z l (and-left _ _ t) (leb-true _ _ (and-right _ _ t)) (deeds (n I) _ _ _) (rw t at c)))
     (λ t. conflict (rw t at c) refl)
 
-pub step : (I : Instance) (a : ℕ) (s : State) → Step I a s (act I a s)
+pub step : (I : Instance) (a : Limits) (s : State) → Step I a s (act I a s)
 step I a s = step-of (acts I a s)
 
 -- an item with an arc's end just below it can act
@@ -116,7 +116,7 @@ can-of (tooHigh z _ _ _ _) j p q e g = conflict (and-mk _ _ e (eq-eqb _ _ g)) (z
 can-of (pushes _ _ _ _) j p q e g = refl
 can-of (lifts _ _ _ _ _) j p q e g = refl
 
-pub job-can : (I : Instance) (a : ℕ) (s : State) (b j : ℕ) → unplaced s b ≡ true → 0 < j → j ≤ I .m → jobArc I s b j ≡ true
+pub job-can : (I : Instance) (a : Limits) (s : State) (b j : ℕ) → unplaced s b ≡ true → 0 < j → j ≤ I .m → jobArc I s b j ≡ true
     → at (s .jobHeights) b ≡ suc (at (s .machineHeights) j) → can (jobDeed I a s b) ≡ true
 unfolding jobDeed
 job-can I a s b j u p q e g = rw u (can-of (deeds (I .m) _ _ _) j p q e g)

@@ -4,7 +4,7 @@ use Prim.Native.Nat.{ℕ, zero, suc, _+_, _≤_}
 use mathlib.Core.Path.{_≡_, refl}
 use native.Mathlib.Omega.{arith}
 use Rattle.rules.specs.Instance.{Instance}
-use Rattle.rules.specs.Trial.{State, Act, rest, byJob, byMachine, act, after, stepsBy}
+use Rattle.rules.specs.Trial.{Limits, State, Act, rest, byJob, byMachine, act, after, stepsBy}
 use Rattle.theory.proofs.Step.{Step, step}
 
 -- the steps made
@@ -16,7 +16,7 @@ Acting rest = ⊥
 Acting (byJob b d) = Unit {0}
 Acting (byMachine i d) = Unit {0}
 
-one-more : {I : Instance} {a : ℕ} {s : State} {x : Act} → Step I a s x → Acting x → made (after s x) ≡ suc (made s)
+one-more : {I : Instance} {a : Limits} {s : State} {x : Act} → Step I a s x → Acting x → made (after s x) ≡ suc (made s)
 one-more (Step.noUnderloaded t) c = absurd c
 one-more (Step.stuck _ y z) c = absurd c
 one-more (Step.jobPush _ _ _ _ _ _ _) c = omega arith
@@ -25,10 +25,10 @@ one-more (Step.machinePush _ _ _ _ _ _ _ _ _ _) c = omega arith
 one-more (Step.machineLift _ _ _ _ _ _ _ _ _ _) c = omega arith
 
 -- a step that is not a rest counts one
-pub adds-one : (I : Instance) (a : ℕ) (s : State) (x : Act) → act I a s ≡ x → Acting x → made (after s x) ≡ suc (made s)
+pub adds-one : (I : Instance) (a : Limits) (s : State) (x : Act) → act I a s ≡ x → Acting x → made (after s x) ≡ suc (made s)
 adds-one I a s x e c = rw e at (one-more (step I a s) (rw (← e) at c))
 
-module _ (I : Instance) (a : ℕ) (Inv : State → Type 0) (keep : (s : State) → Inv s → Inv (after s (act I a s))) where
+module _ (I : Instance) (a : Limits) (Inv : State → Type 0) (keep : (s : State) → Inv s → Inv (after s (act I a s))) where
   -- what each step keeps, the run keeps
   kept : (f : ℕ) (s : State) → Inv s → (x : Act) → act I a s ≡ x → Inv (stepsBy I a f s x)
   unfolding stepsBy
@@ -55,7 +55,7 @@ module _ (I : Instance) (a : ℕ) (Inv : State → Type 0) (keep : (s : State) �
     run-rests s i z = resting most s i (omega arith) (act I a s) refl
 
 -- at rest no step is made, however many may be
-pub stays : (I : Instance) (a f : ℕ) (s : State) → stepsBy I a f s rest ≡ s
+pub stays : (I : Instance) (a : Limits) (f : ℕ) (s : State) → stepsBy I a f s rest ≡ s
 unfolding stepsBy
 stays I a zero s = refl
 stays I a (suc f) s = refl

@@ -24,6 +24,11 @@ pub record Permitted (I : Instance) (x : Assignment) : Type 0 where
   pub size : length x ≡ n I
   pub listed : (b : ℕ) → 0 < b → b ≤ n I → eligible I b (at x b) ≡ true
 
+-- each job has one machine that may run it, or none: where a trial may start
+pub record Partial (I : Instance) (x : Assignment) : Type 0 where
+  pub size : length x ≡ n I
+  pub listed : (b i : ℕ) → 0 < i → at x b ≡ i → eligible I b i ≡ true
+
 pub permitted-is : (I : Instance) (x : Assignment) → permitted I x ≡ true → Permitted I x
 unfolding permitted
 permitted-is I x e = record {

@@ -12,13 +12,14 @@ use lib.Pow.{pow-pos, pow-mono}
 use lib.Dec.{leb}
 use borrow.Author.Tests.{eq-eqb, le-leb, lt-leb, leb-true, leb-false}
 use Rattle.rules.specs.Fold.{mem, thoseTo}
-use Rattle.rules.specs.Instance.{Instance}
+use Rattle.rules.specs.Instance.{Instance, Assignment}
+use Rattle.rules.specs.Group.{closure}
 use Rattle.theory.proofs.Logic.{byTest}
 use Rattle.theory.proofs.Member.{mem-none}
 use Rattle.theory.proofs.Those.{those-mem, those-range}
 use Rattle.theory.proofs.Closure.{IsGroup, those}
 use Rattle.arrays.specs.Sets.{has, SetOf}
-use Rattle.trials.specs.Grouping.{Holds}
+use Rattle.trials.specs.Grouping.{groupBy, Holds}
 use Rattle.arrays.proofs.Bits.{bit, bit-zero}
 use Rattle.arrays.proofs.Words.{has-bit, set-none}
 use Rattle.arrays.proofs.Masks.{set-same}
@@ -92,6 +93,22 @@ all-set m h = rw (all-word m h) record {
   small = let w = pow-few m h in omega arith;
   each = λ i l u. has-bit (2 ^ m - 1) i ∙ ones m (i - 1) ∙ (let e : suc (i - 1) ≡ i = omega arith in rw e);
 }
+
+-- the list of all machines names exactly 1 to m
+all-mem : (m i : ℕ) → 0 < i → mem i (thoseTo m (λ j. true)) ≡ leb i m
+all-mem m i i0 =
+    byTest (leb i m)
+    (λ t. those-mem m (λ j. true) i i0 (leb-true _ _ t) ∙ sym t)
+    (λ t. byTest (mem i (thoseTo m (λ j. true))) (λ u. absurd (omega (arith, those-range m _ i u, leb-false i m t))) (λ u. u ∙ sym t))
+
+-- ---- the group of a failure
+
+module _ (I : Instance) (x : Assignment) (i : ℕ) {some : Bool} {r : ℕ} where
+  pub group-some : some ≡ true → SetOf (λ j. mem j (closure I x i)) r → SetOf (λ j. mem j (groupBy I x i some)) r
+  group-some e s = rw e s
+
+  pub group-all : {m : ℕ} → I .m ≡ m → some ≡ false → SetOf (λ j. leb j m) r → SetOf (λ j. mem j (groupBy I x i some)) r
+  group-all f e s = rw (e, f) (set-same _ (λ j l u. sym (all-mem _ j l)) s)
 
 -- the empty group
 pub none-group : SetOf (λ i. mem i []) 0

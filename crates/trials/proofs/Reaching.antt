@@ -16,11 +16,11 @@ use Rattle.theory.proofs.Logic.{byTest, and-left, and-right, or-cases, or-false
 use Rattle.theory.proofs.View.{Some, here, any-some}
 use Rattle.theory.proofs.Closure.{IsGroup, those, group-range, reach-group}
 use Rattle.arrays.specs.Sets.{has, SetOf}
-use Rattle.trials.specs.Reads.{Reads}
+use Rattle.arrays.specs.Reads.{Reads}
 use Rattle.trials.specs.Grouping.{among}
 use Rattle.trials.proofs.Take.{at-take}
 use Rattle.arrays.proofs.Search.{and-no-left}
-use Rattle.trials.proofs.Going.{any-ext}
+use Rattle.theory.proofs.Agree.{any-ext}
 use Rattle.arrays.proofs.Words.{has-or, set-zero}
 use Rattle.arrays.proofs.Masks.{set-same}
 use Rattle.trials.proofs.Groups.{those-all, groups-same}

@@ -1,74 +1,117 @@
 -- A trial's steps one after the other, and its counts as what ends them.
 -- Assumes nothing.
-use Prim.Native.Nat.{ℕ, suc, _+_, _-_, _≤_, _<_}
-use mathlib.Core.Path.{_≡_, refl, sym, ap, _∙_}
-use mathlib.Core.Bool.{Bool, true, false, true≢false}
-use mathlib.Core.List.{List}
+use Prim.Native.Nat.{ℕ, zero, suc, _+_, _-_, _≤_, _<_}
+use mathlib.Core.Path.{_≡_, refl, sym, ap, subst, _∙_}
+use mathlib.Core.Bool.{Bool, true, false}
+use mathlib.Core.List.{List, _∷_}
 use native.Mathlib.Omega.{arith}
-use Rattle.rules.specs.Fold.{pick}
-use lib.ListN.{getD}
-use Rattle.rules.specs.Instance.{Instance}
-use Rattle.theory.proofs.Iterate.{here, leads-trans}
-use Rattle.theory.proofs.Lifts.{lifts-bound}
-use Rattle.theory.proofs.Pushes.{pushes-bound}
+use lib.ListN.{take, replicate}
+use Rattle.rules.specs.Fold.{pick, firstTo}
+use Rattle.rules.specs.Instance.{Instance, Assignment, n}
+use Rattle.rules.specs.Load.{load}
+use Rattle.rules.specs.Trial as T
+use Rattle.rules.specs.Trial.{Limits, rest, act, after}
+use Rattle.theory.proofs.Logic.{conflict}
+use Rattle.theory.proofs.Steps.{made, Acting, adds-one}
+use Rattle.theory.proofs.Ending.{Counted, counted-step, counted-start}
+use Rattle.theory.proofs.Iterate.{Leads, here, step, leads-trans, leads-end}
 use Rattle.trials.specs.declared.State.{State}
-use Rattle.trials.specs.Track.{stateWith, arrays, Setup, Tracks, Stepping, Stepped, Ended}
-use Rattle.theory.proofs.Heights.{at-zeros}
-use Rattle.trials.specs.Attempt.{Fresh}
-use Rattle.trials.specs.Near.{Flat}
-use Rattle.trials.proofs.Stepping.{plain, track-plain, stepped, leads-of}
-use Rattle.trials.proofs.Giving.{lift-bound-small, push-bound-small}
+use Rattle.trials.specs.Moves.{waits}
+use Rattle.trials.specs.Track.{stateOf, idle, Beside, Setup, Trying, Stepped, Starts, Ends}
 
--- how many steps are left at the most; none where the state rests
+-- the steps of the rules lead from x to t, and nothing acts there where t rests
+pub record Going (I : Instance) (a : Limits) (sets : List ℕ) (x : Assignment) (t : State) : Type 0 where
+  pub leads : Leads I a (T.start I x) (stateOf I t)
+  pub counted : Counted I (stateOf I t)
+  pub rests : t .resting ≡ true → act I a (stateOf I t) ≡ rest
+  pub beside : Beside I sets t
+
+module _ {I : Instance} {a : Limits} {m c : ℕ} {lengths sets lows highs : List ℕ} {x : Assignment} {t : State} (g : Going I a sets x t) where
+  pub trying : Setup I a m c lengths sets lows highs → t .resting ≡ false → Trying I a m c lengths sets lows highs t
+  trying u e = record { setup = u; tracks = record { counted = g .counted; beside = g .beside; acting = e } }
+
+rests-of : (y : T.Act) → idle y ≡ true → y ≡ rest
+rests-of T.rest e = refl
+rests-of (T.byJob b d) e = conflict e refl
+rests-of (T.byMachine i d) e = conflict e refl
+
+pub one-more : {I : Instance} {a : Limits} {sets : List ℕ} {x : Assignment} {t u : State} → Going I a sets x t → Stepped I a sets t u → Going I a sets x u
+one-more {I} {a} {sets} {x} {t} {u} g k = record {
+  leads = leads-trans (g .leads) (step {s = stateOf I t} {t = stateOf I u} (subst (λ (z : T.State). Leads I a z (stateOf I u)) (k .is) here));
+  counted = subst (λ (z : T.State). Counted I z) (sym (k .is)) (counted-step I a (stateOf I t) (g .counted));
+  rests = λ y.
+      let e = rests-of (act I a (stateOf I t)) (sym (k .rests) ∙ y) in
+      let same : stateOf I u ≡ stateOf I t = k .is ∙ ap (after (stateOf I t)) e in
+      ap (act I a) same ∙ e;
+  beside = k .beside;
+}
+
+pub at-end : {I : Instance} {a : Limits} {m c : ℕ} {lengths sets lows highs places loads : List ℕ} {t : State}
+    → Starts I a m c lengths sets lows highs places loads → Going I a sets (take c places) t → t .resting ≡ true → Ends I a (take c places) t
+at-end {I} {a} {c = c} {places = places} w g e = record {
+  is = leads-end I (take c places) (w .partial) a (g .leads) (g .rests e);
+  loads = g .beside .loads;
+}
+
+-- ---- how many steps are left at the most; none where the state rests
+
 abbrev pub left : State → ℕ
 left t = pick (t .resting) 0 (491177 - (t .lifts + t .pushes))
 
-module _ {I : Instance} {a limit m c : ℕ} {lengths sets : List ℕ} where
-  -- no state has made more steps than both bounds together
-  pub few-steps : (t : State) → Setup I a limit m c lengths sets → Tracks I a t → t .lifts + t .pushes ≤ 491176
-  few-steps t u k =
-      omega (
-        arith,
-        lifts-bound I _ (k .counted .lifts),
-        pushes-bound I _ (k .counted .caps) (k .counted .pushes),
-        lift-bound-small (u .reads),
-        push-bound-small (u .reads),
-      )
+acting-of : (y : T.Act) → idle y ≡ false → Acting y
+acting-of T.rest e = conflict refl e
+acting-of (T.byJob b d) e = tt
+acting-of (T.byMachine i d) e = tt
 
-pub none-yet : {I : Instance} {a : ℕ} {t : State} → Tracks I a t → t .resting ≡ false → Stepped I a t t
-none-yet k e = stepped here k (λ x. absurd (true≢false (sym x ∙ e)))
-
-pub one-more : {I : Instance} {a : ℕ} {t u w : State} → Stepped I a t u → Stepped I a u w → Stepped I a t w
-one-more p q = stepped (leads-trans (leads-of p) (leads-of q)) (q .tracks) (q .rests)
-
-pub at-end : {I : Instance} {a : ℕ} {t u : State} → Stepped I a t u → u .resting ≡ true → Ended I a t u
-at-end p e = record { leads = leads-of p; tracks = p .tracks; rests = p .rests e }
-
--- a step brings the end nearer
-pub nearer : (t u : State) → t .resting ≡ false → t .lifts + t .pushes ≤ 491176 → (u .resting ≡ false → t .lifts + t .pushes < u .lifts + u .pushes)
+pub nearer : {I : Instance} {a : Limits} {sets : List ℕ} (t u : State) → t .resting ≡ false → t .lifts + t .pushes ≤ 491176 → Stepped I a sets t u
     → left u < left t
-nearer t u e h g = rw e (from (u .resting) refl)
+nearer {I} {a} t u e h k = rw e (from (u .resting) refl)
   where
     from : (b : Bool) → u .resting ≡ b → pick b 0 (491177 - (u .lifts + u .pushes)) < 491177 - (t .lifts + t .pushes)
     from true q = omega arith
-    from false q = omega (arith, g q)
+    from false q =
+        let s = stateOf I t in
+        let z = adds-one I a s (act I a s) refl (acting-of (act I a s) (sym (k .rests) ∙ q)) in
+        let y : u .lifts + u .pushes ≡ made (after s (act I a s)) = ap made (k .is) in
+        omega arith
 
--- ---- turns, in a step
+-- ---- the start
 
-pub going-on : {I : Instance} {a : ℕ} {t : State} {machines jobs places loads levels : List ℕ} {lifts pushes : ℕ} {b : Bool} → b ≡ false
-    → Stepped I a t (stateWith machines jobs places loads levels lifts pushes b) → Stepped I a t (arrays machines jobs places loads levels lifts pushes)
-going-on e k = rw e at k
+abbrev pub fresh : List ℕ → List ℕ → ℕ → State
+fresh places loads waiting = record {
+  machines = replicate 24 0;
+  jobs = replicate 200 0;
+  places = places;
+  loads = loads;
+  lifts = 0;
+  pushes = 0;
+  waiting = waiting;
+  resting = false;
+}
 
--- the arrays of a state are its start
-pub from-plain : {I : Instance} {a limit m c : ℕ} {lengths sets : List ℕ} {t u : State} → Stepping I a limit m c lengths sets t
-    → (Stepping I a limit m c lengths sets (plain t) → Stepped I a (plain t) u) → Stepped I a t u
-from-plain v f =
-    let k = f (record { setup = v .setup; tracks = track-plain (v .tracks) }) in
-    stepped (leads-of k) (k .tracks) (k .rests)
+take-zeros : (k c : ℕ) → k ≤ c → _≡_ {A = List ℕ} (take k (replicate c 0)) (replicate k 0)
+take-zeros zero c h = refl
+take-zeros (suc k) zero h = absurd (omega arith)
+take-zeros (suc k) (suc c) h = ap (λ (l : List ℕ). _∷_ 0 l) (take-zeros k c (omega arith))
 
--- a first state is flat
-pub fresh-flat : {places loads : List ℕ} {m : ℕ} {t : State} → Fresh places loads m t → Flat t
-fresh-flat f = (
-  λ i. ap (λ (l : List ℕ). getD l i 0) (f .machines) ∙ at-zeros 24 (suc i),
-  λ b. ap (λ (l : List ℕ). getD l b 0) (f .jobs) ∙ at-zeros 200 (suc b),
-)
+module _ {I : Instance} {a : Limits} {m c : ℕ} {lengths sets lows highs places loads : List ℕ}
+    (w : Starts I a m c lengths sets lows highs places loads) (waiting : ℕ) (f : waiting ≡ firstTo c (λ b. waits places sets b)) where
+  fresh-is : stateOf I (fresh places loads waiting) ≡ T.start I (take c places)
+  fresh-is =
+      let r = w .setup .reads in
+      rw (
+        take-zeros (I .m) 24 (omega (arith, r .machines, r .few)),
+        take-zeros (n I) 200 (omega (arith, r .jobs, r .most)),
+        r .jobs,
+      )
+
+  pub begun : Going I a sets (take c places) (fresh places loads waiting)
+  begun = record {
+    leads = subst (λ (z : T.State). Leads I a (T.start I (take c places)) z) (sym fresh-is) here;
+    counted = subst (λ (z : T.State). Counted I z) (sym fresh-is) (counted-start I (take c places) (w .partial) a);
+    rests = λ y. conflict y refl;
+    beside = record {
+      loads = λ i p q. w .kept i p q ∙ ap (λ (k : ℕ). load I (take k places) i) (sym (w .setup .reads .jobs));
+      waiting = f ∙ ap (λ (k : ℕ). firstTo k (λ b. waits places sets b)) (sym (w .setup .reads .jobs));
+    };
+  }

@@ -1,136 +1,131 @@
--- A trial's end on the arrays, and what the rules make of it.
+-- A trial's end on the arrays, from a permitted assignment, and what the rules make of it.
 -- Assumes nothing.
-use Prim.Native.Nat.{ℕ, zero, suc, _+_, _≤_, _<_}
-use mathlib.Core.Path.{_≡_, refl, sym, ap, subst, _∙_}
-use mathlib.Core.Bool.{Bool, true, false}
-use mathlib.Core.List.{List, _∷_}
+use Prim.Native.Nat.{ℕ, suc, _+_, _-_, _≤_, _<_}
+use mathlib.Core.Path.{_≡_, sym, ap, subst, _∙_}
+use mathlib.Core.Bool.{Bool, true, false, true≢false}
+use mathlib.Core.List.{List}
 use native.Mathlib.Omega.{arith}
-use lib.ListN.{take, replicate}
+use lib.ListN.{take, replicate, getD-replicate}
 use lib.Dec.{ltb, leb}
 use borrow.Author.Tests.{ne-eqb}
-use Rattle.rules.specs.Fold.{_or_, at, firstTo, anyTo, thoseTo}
+use Rattle.rules.specs.Fold.{_or_, at, mem, firstTo, anyTo, thoseTo}
 use Rattle.rules.specs.Instance.{Instance, Assignment, n}
 use Rattle.rules.specs.Load.{load, longest}
 use Rattle.rules.specs.Trial as T
-use Rattle.rules.specs.Trial.{overloaded, unplaced, ended}
-use Rattle.rules.specs.Group.{overflows, group, closure, passed, failed, trial}
-use Rattle.theory.proofs.Logic.{or-skip, byTest, conflict}
-use Rattle.theory.proofs.View.{First, first, Some, here, any-some, any-at, None}
-use Rattle.theory.proofs.Ending.{Counted, counted-start}
-use Rattle.theory.proofs.Underloaded.{runnable}
-use Rattle.theory.proofs.Iterate.{Leads, leads-end}
-use Rattle.theory.proofs.Turn.{first-ext, Placed}
+use Rattle.rules.specs.Trial.{atLevel, overloaded, unplaced}
+use Rattle.rules.specs.Group.{overflows, group, passed, failed, trial}
+use Rattle.theory.proofs.Logic.{or-skip}
+use Rattle.theory.proofs.Agree.{any-miss, first-none, first-any}
+use Rattle.theory.proofs.Valid.{Permitted}
+use Rattle.theory.proofs.Heights.{permitted-partial}
+use Rattle.theory.proofs.Closure.{IsGroup, those, closure-group}
+use Rattle.theory.proofs.Trial.{trial-placed, trial-permitted}
+use Rattle.arrays.specs.Sets.{SetOf}
+use Rattle.arrays.specs.Reads.{Kept}
 use Rattle.trials.specs.declared.State.{State}
-use Rattle.trials.specs.Reads.{Reads}
-use Rattle.trials.specs.Track.{stateOf, Setup, Stepping, Ended}
-use Rattle.trials.specs.Attempt.{Fresh, Standing}
-use Rattle.trials.proofs.Going.{some-by}
+use Rattle.trials.specs.Track.{stateOf, Setup, Starts, Ends}
+use Rattle.trials.specs.Attempt.{Standing, Tries}
+use Rattle.trials.specs.Grouping.{groupBy}
+use Rattle.trials.proofs.Scanned.{some-is, first-overloaded}
 
--- ---- a search that finds nothing, or something
+-- 24 times the same limit
+same-limit : (v i : ℕ) → 0 < i → i ≤ 24 → at (replicate 24 v) i ≡ v
+same-limit v (suc i) p q = getD-replicate 24 i v 0 q
 
-none-any : (k : ℕ) (p : ℕ → Bool) → None k p → anyTo k p ≡ false
-none-any k p h = byTest (anyTo k p) (λ t. from (any-some k p t)) (λ t. t)
-  where
-    from : Some k p → anyTo k p ≡ false
-    from (here i l u e) = conflict e (h i l u)
-
-first-none : (k : ℕ) (p : ℕ → Bool) → firstTo k p ≡ 0 → anyTo k p ≡ false
-first-none k p e = none-any k p (from (rw e at (first k p)))
-  where
-    from : First k p 0 → None k p
-    from (First.nowhere z) = z
-
-first-any : (k : ℕ) (p : ℕ → Bool) (i : ℕ) → firstTo k p ≡ suc i → anyTo k p ≡ true
-first-any k p i e = from (rw e at (first k p))
-  where
-    from : First k p (suc i) → anyTo k p ≡ true
-    from (First.found j l t z) = any-at k p (suc j) (omega arith) l t
-
--- ---- the start
-
-take-zeros : (k c : ℕ) → k ≤ c → _≡_ {A = List ℕ} (take k (replicate c 0)) (replicate k 0)
-take-zeros zero c h = refl
-take-zeros (suc k) zero h = absurd (omega arith)
-take-zeros (suc k) (suc c) h = ap (λ (l : List ℕ). _∷_ 0 l) (take-zeros k c (omega arith))
-
-module _ {I : Instance} {m c : ℕ} {lengths sets places loads : List ℕ} (w : Standing I m c lengths sets places loads) where
-  r : Reads I m c lengths sets
-  r = w .reads
-
-  x : Assignment
+module _ {I : Instance} {m c : ℕ} {lengths sets places loads : List ℕ} (w : Standing I m c lengths sets places loads) (a limit : ℕ)
+    (e : limit ≡ a + longest I) where
+  abbrev x : Assignment
   x = take c places
 
-  fresh-state : {t : State} → Fresh places loads m t → stateOf (I .m) (n I) t ≡ T.start I (take c places)
-  fresh-state {t} f = λ k. record {
-    assignment = (ap (take (n I)) (f .same) ∙ ap (λ (q : ℕ). take q places) (r .jobs)) k;
-    machineHeights = (ap (take (I .m)) (f .machines) ∙ take-zeros (I .m) 24 (omega (arith, r .machines, r .few))) k;
-    jobHeights = (ap (take (n I)) (f .jobs) ∙ take-zeros (n I) 200 (omega (arith, r .jobs, r .most))) k;
-    lifts = f .lifts k;
-    pushes = f .pushes k;
+  setup : Setup I (atLevel I a) m c lengths sets (replicate 24 a) (replicate 24 limit)
+  unfolding atLevel
+  setup = record {
+    reads = w .reads;
+    low = λ i p q. same-limit a i p (omega (arith, w .reads .few));
+    high = λ i p q. same-limit limit i p (omega (arith, w .reads .few)) ∙ e;
   }
 
-  setup-at : (a limit : ℕ) → limit ≡ a + longest I → Setup I a limit m c lengths sets
-  setup-at a limit e = record { reads = r; cap = e; runnable = runnable I (take c places) (r .valid) (w .permitted) }
+  pub starts : Starts I (atLevel I a) m c lengths sets (replicate 24 a) (replicate 24 limit) places loads
+  starts = record { setup = setup; partial = permitted-partial (w .permitted); kept = w .kept }
 
-  pub begins : {t : State} (a limit : ℕ) → limit ≡ a + longest I → Fresh places loads m t → Stepping I a limit m c lengths sets t
-  begins {t} a limit e f = record {
-    setup = setup-at a limit e;
-    tracks = record {
-      counted = subst (Counted I) (sym (fresh-state f)) (counted-start I (take c places) (r .valid) (w .permitted) a);
-      placed = subst (Placed I) (sym (fresh-state f)) (λ b p q. r .valid .ranged b _ (w .permitted .listed b p q) .0);
-      loads = λ i i0 im.
-          ap (λ (l : List ℕ). at l i) (f .kept) ∙ w .kept i i0 im
-          ∙ ap (λ (y : Assignment). load I y i) (sym (ap (take (n I)) (f .same) ∙ ap (λ (q : ℕ). take q places) (r .jobs)));
-      levels = rw (f .machines, r .machines) (f .levels);
-    };
-  }
+  module _ {t : State} (d : Ends I (atLevel I a) x t) where
+    abbrev s : T.State
+    s = stateOf I t
 
-  -- ---- the end
+    same : take (n I) (t .places) ≡ take c (t .places)
+    same = ap (λ (q : ℕ). take q (t .places)) (w .reads .jobs)
 
-  module _ {t t′ : State} (a limit : ℕ) (e : limit ≡ a + longest I) (f : Fresh places loads m t) (d : Ended I a t t′) where
-    pub end-is : stateOf (I .m) (n I) t′ ≡ ended I (take c places) a
-    end-is =
-        leads-end I (take c places) (r .valid) (w .permitted) a
-        (subst (λ (s : T.State). Leads I a s (stateOf (I .m) (n I) t′)) (fresh-state f) (d .leads)) (d .rests)
+    end-permitted : Permitted I (take c (t .places))
+    end-permitted =
+        subst (Permitted I) same
+        (subst (λ (s : T.State). Permitted I (s .assignment)) (sym (d .is)) (trial-permitted I x (w .reads .valid) (w .permitted) (atLevel I a)))
 
-    -- the overloaded machines, by the loads kept
-    over-by : (i : ℕ) → 0 < i → i ≤ I .m → ltb limit (at (t′ .loads) i) ≡ overloaded I a (stateOf (I .m) (n I) t′) i
-    unfolding overloaded
-    over-by i i0 im = rw (d .tracks .loads i i0 im, e)
+    end-loads : Kept I (take c (t .places)) (t .loads)
+    end-loads i p q = d .loads i p q ∙ ap (λ (y : Assignment). load I y i) same
 
-    pub over-first : firstTo m (λ i. ltb limit (at (t′ .loads) i)) ≡ firstTo (I .m) (λ i. overloaded I a (stateOf (I .m) (n I) t′) i)
-    over-first =
-        ap (λ (q : ℕ). firstTo q (λ i. ltb limit (at (t′ .loads) i))) (sym (r .machines))
-        ∙ first-ext (I .m) _ _ over-by
-
-    all-placed : anyTo (n I) (λ b. unplaced (stateOf (I .m) (n I) t′) b) ≡ false
+    all-placed : anyTo (n I) (λ b. unplaced s b) ≡ false
     unfolding unplaced
-    all-placed = none-any (n I) _ (λ b p q. ne-eqb (at (take (n I) (t′ .places)) b) 0 (λ z. omega (arith, d .tracks .placed b p q)))
+    all-placed = any-miss (n I) _ (λ b p q.
+        let z : 0 < at (take (n I) (t .places)) b =
+        subst (λ (s : T.State). 0 < at (s .assignment) b) (sym (d .is)) (trial-placed I x (w .reads .valid) (w .permitted) (atLevel I a) b p q) in
+        ne-eqb (at (take (n I) (t .places)) b) 0 (λ y. omega arith))
 
-    -- nothing overflows exactly where no machine is overloaded
-    overflow-by : overflows I a (stateOf (I .m) (n I) t′) ≡ anyTo (I .m) (λ i. overloaded I a (stateOf (I .m) (n I) t′) i)
+    -- something overflows exactly where a machine is overloaded
+    overflow-by : overflows I (atLevel I a) s ≡ anyTo (I .m) (λ i. overloaded I (atLevel I a) s i)
     unfolding overflows
     overflow-by = or-skip _ all-placed
 
-    pub passes-by : firstTo m (λ i. ltb limit (at (t′ .loads) i)) ≡ 0
-        → trial I (take c places) a ≡ passed (take (n I) (t′ .places)) (t′ .lifts) (t′ .pushes)
-    unfolding trial
-    passes-by z =
-        rw (← end-is, overflow-by ∙ first-none (I .m) _ (sym over-first ∙ z))
+    -- the lowest overloaded machine, as the code finds it
+    abbrev over : ℕ
+    over = firstTo m (λ i. ltb (at (replicate 24 limit) i) (at (t .loads) i))
 
-    pub fails-by : (i : ℕ) → firstTo m (λ i. ltb limit (at (t′ .loads) i)) ≡ suc i
-        → trial I (take c places) a ≡ failed (group I a (stateOf (I .m) (n I) t′)) (t′ .lifts) (t′ .pushes)
+    over-by : over ≡ firstTo (I .m) (λ i. overloaded I (atLevel I a) s i)
+    over-by = first-overloaded setup t (d .loads)
+
+    passes-by : over ≡ 0 → trial I x a ≡ passed (take c (t .places)) (t .lifts) (t .pushes)
+    unfolding trial
+    passes-by z = rw (← d .is, overflow-by ∙ any-miss (I .m) _ (first-none (I .m) _ (sym over-by ∙ z)), same)
+
+    pub tries-pass : over ≡ 0 → Tries I x a c (t .places) (t .loads) true 0 (t .lifts) (t .pushes)
+    tries-pass z = record {
+      passes = λ y. passes-by z;
+      machines = thoseTo (I .m) (λ i. true);
+      isGroup = those _;
+      isSet = λ y. absurd (true≢false y);
+      fails = λ y. absurd (true≢false y);
+      permitted = end-permitted;
+      kept = end-loads;
+    }
+
+    -- some machine is underloaded, as the code finds it
+    abbrev some : Bool
+    some = anyTo m (λ i. leb (at (t .loads) i) (at (replicate 24 a) i))
+
+    group-by : group I (atLevel I a) s ≡ groupBy I (take c (t .places)) over some
+    unfolding group
+    group-by = rw (some-is setup t (d .loads), over-by, same)
+
+    fails-by : (i : ℕ) → over ≡ suc i → trial I x a ≡ failed (groupBy I (take c (t .places)) over some) (t .lifts) (t .pushes)
     unfolding trial
     fails-by i z =
-        rw (← end-is, overflow-by ∙ first-any (I .m) _ i (sym over-first ∙ z))
+        (rw (← d .is, overflow-by ∙ first-any (I .m) _ i (sym over-by ∙ z)))
+        ∙ ap (λ (g : List ℕ). failed g (t .lifts) (t .pushes)) group-by
 
-    -- the group: all machines, or the closure of the lowest overloaded one
-    pub group-all : anyTo m (λ i. leb (at (t′ .loads) i) a) ≡ false → group I a (stateOf (I .m) (n I) t′) ≡ thoseTo (I .m) (λ i. true)
-    unfolding group
-    group-all z = rw (sym (some-by I a t′ (d .tracks) (setup-at a limit e)) ∙ z)
+    is-group : (q : Bool) (i : ℕ) → 0 < i → i ≤ m → IsGroup I (groupBy I (take c (t .places)) i q)
+    is-group true i p h = closure-group I (take c (t .places)) i p (omega (arith, w .reads .machines))
+    is-group false i p h = those _
 
-    pub group-closure : (i : ℕ) → anyTo m (λ i. leb (at (t′ .loads) i) a) ≡ true → firstTo m (λ i. ltb limit (at (t′ .loads) i)) ≡ i
-        → group I a (stateOf (I .m) (n I) t′) ≡ closure I (take (n I) (t′ .places)) i
-    unfolding group
-    group-closure i z q =
-        rw (sym (some-by I a t′ (d .tracks) (setup-at a limit e)) ∙ z, ← over-first, q)
+    pub tries-fail : (i g : ℕ) → i ≡ over → 0 < i → i ≤ m → SetOf (λ j. mem j (groupBy I (take c (t .places)) i some)) g
+        → Tries I x a c (t .places) (t .loads) false g (t .lifts) (t .pushes)
+    tries-fail i g z p h k = record {
+      passes = λ y. absurd (true≢false (sym y));
+      machines = groupBy I (take c (t .places)) i some;
+      isGroup = is-group some i p h;
+      isSet = λ y. k;
+      fails = λ y. fails-by (i - 1) (sym z ∙ less) ∙ ap (λ (j : ℕ). failed (groupBy I (take c (t .places)) j some) (t .lifts) (t .pushes)) (sym z);
+      permitted = end-permitted;
+      kept = end-loads;
+    }
+      where
+        less : i ≡ suc (i - 1)
+        less = omega arith

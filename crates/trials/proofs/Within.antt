@@ -19,7 +19,7 @@ use Rattle.theory.proofs.Fold.{sumTo-ext}
 use Rattle.theory.proofs.View.{all-at, all-mk}
 use Rattle.theory.proofs.Member.{every-mem, every-mk}
 use Rattle.arrays.specs.Sets.{has, SetOf}
-use Rattle.trials.specs.Reads.{Reads}
+use Rattle.arrays.specs.Reads.{Reads}
 use Rattle.trials.specs.Grouping.{inside}
 use Rattle.arrays.proofs.Bits.{bit-not}
 use Rattle.arrays.proofs.Words.{has-bit, has-and, set-zero, empty-zero}

@@ -1,5 +1,4 @@
 pub mod Attempt
 pub mod Grouping
-pub mod Reads
+pub mod Moves
 pub mod Track
-pub mod Near

@@ -4,15 +4,17 @@ ghost use mathlib.Core.List.{List};
 ghost use Prim.Native.Nat.{ℕ, _+_, _<_, _≤_, _^_};
 ghost use lib.ListN.{length, take};
 ghost use lib.Dec.{leb};
-ghost use Rattle.rules.specs.Fold.{pick, at, mem, thoseTo};
+ghost use Rattle.rules.specs.Fold.{pick, at, mem, anyTo, thoseTo};
 ghost use Rattle.rules.specs.Instance.{Instance};
 ghost use Rattle.rules.specs.Group.{reach, closure};
 ghost use Rattle.rules.specs.LowerBound.{confined, ceilDiv, lowerBound};
 ghost use Rattle.rules.specs.Load as Load;
 ghost use Rattle.theory.proofs.Closure.{IsGroup};
 ghost use Rattle.arrays.specs.Sets.{has, SetOf};
-ghost use Rattle.trials.specs.Reads.{Reads};
-ghost use Rattle.trials.specs.Grouping.{among, inside, Holds};
+ghost use Rattle.arrays.specs.Reads.{Reads};
+ghost use Rattle.trials.specs.Grouping.{among, inside, groupBy, Holds};
+use crate::scan::some_underloaded;
+use arrays::MACHINES;
 use arrays::sets::is_in;
 use arrays::sets::with;
 
@@ -73,9 +75,30 @@ pub fn all_machines(m: usize) -> u32
     (1 << m) - 1
 }
 
+// The group of a trial that failed with these loads and places, where machine `over` is the lowest overloaded one: all machines where none
+// is underloaded, otherwise the closure of that one.
+pub fn group_of(
+    loads: &[u32],
+    places: &[u8],
+    masks: &[u32],
+    low: &[u32],
+    m: usize,
+    n: usize,
+    over: usize,
+) -> u32
+    requires { ⌜ (m ≤ 24) × (m ≤ length (now loads)) × (n ≤ length (now places)) × (n ≤ length (now masks)) × (m ≤ length (now low)) × (0 < over) × (over ≤ m) ⌝ }
+    ensures { λ r. ⌜ ((I : Instance) (lengths : List ℕ) → Reads I m n lengths (now (masks .entry))
+        → SetOf (λ j. mem j (groupBy I (take n (now (places .entry))) over (anyTo m (λ i. leb (at (now (loads .entry)) i) (at (now (low .entry)) i))))) r) ⌝ }
+{
+    if some_underloaded(loads, low, m) {
+        return closure_of(places, masks, n, m, over);
+    }
+    all_machines(m)
+}
+
 // A list of machines: `size` of them, and zeros after them.
 pub struct Members {
-    pub list: [u8; 24],
+    pub list: [u8; MACHINES],
     pub size: usize,
 }
 
@@ -84,7 +107,7 @@ pub fn members_of(x: u32, m: usize) -> Members
     requires { ⌜ m ≤ 24 ⌝ }
     ensures { λ r. ⌜ Holds (thoseTo m (λ i. has x i)) (r .list) (r .size) ⌝ }
 {
-    let mut list: [u8; 24] = [0; 24];
+    let mut list = [0u8; MACHINES];
     let mut size: usize = 0;
     let mut i: usize = 0;
     while i < m {

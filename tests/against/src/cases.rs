@@ -371,7 +371,7 @@ fn levels(rng: &mut Rng, sheet: &Sheet, times: usize, calls: &mut Vec<Call>) {
     let total = sheet.total() as u64;
     let average = total / sheet.instruments() as u64;
     let longest = sheet.longest() as u64;
-    let makespan = sheet.makespan() as u64;
+    let finish = sheet.finish() as u64;
     for _ in 0..times {
         // From below any trial's level to the first that passes at once.
         let low = average.saturating_sub(longest);
@@ -379,39 +379,51 @@ fn levels(rng: &mut Rng, sheet: &Sheet, times: usize, calls: &mut Vec<Call>) {
             rng.below(total + 2),
             low + rng.below(longest + 2),
             average.saturating_sub(rng.below(3)) + rng.below(3),
-            makespan.saturating_sub(longest + rng.below(1 + makespan / 4)),
+            finish.saturating_sub(longest + rng.below(1 + finish / 4)),
         ] {
             calls.push(Call::Trial { level });
         }
     }
 }
 
-/// Hard sheets of 24 instruments and 200 batches, tried at every level that
-/// halving comes to and at those next to them, and once more after edits.
-pub fn hard(seed: u64, count: usize) -> Vec<Case> {
+/// Hard sheets of 24 instruments and 200 batches, each with some edits.
+pub fn hard_edits(seed: u64, count: usize) -> Vec<(Sheet, Vec<Call>)> {
     let mut rng = Rng::new(seed);
     let case = |_| {
         let start = gen::hard(rng.next_u64());
-        let mut calls = Vec::new();
-        halving(&start, &mut calls);
         let mut sheet = start.clone();
+        let mut calls = Vec::new();
         for _ in 0..rng.within(1, 8) {
             let call = edit(&mut rng, &sheet);
             apply(&mut sheet, &call);
             calls.push(call);
         }
+        (start, calls)
+    };
+    (0..count).map(case).collect()
+}
+
+/// Those sheets, tried at every level that halving comes to and at those next
+/// to them, and once more after the edits.
+pub fn hard(seed: u64, count: usize) -> Vec<Case> {
+    let case = |(start, edits): (Sheet, Vec<Call>)| {
+        let mut calls = Vec::new();
+        halving(&start, &mut calls);
+        let mut sheet = start.clone();
+        second::run(&mut sheet, &edits);
+        calls.extend(edits);
         halving(&sheet, &mut calls);
         Case {
             sheet: Draft::from(&start).render(),
             calls,
         }
     };
-    (0..count).map(case).collect()
+    hard_edits(seed, count).into_iter().map(case).collect()
 }
 
 fn halving(sheet: &Sheet, calls: &mut Vec<Call>) {
     calls.push(Call::Review);
-    let (mut failed, mut passed) = (-1, sheet.makespan() as i64);
+    let (mut failed, mut passed) = (-1, sheet.finish() as i64);
     while passed - failed > 1 {
         let level = (failed + passed).div_euclid(2);
         for near in [level - 1, level, level + 1] {
@@ -503,15 +515,15 @@ fn instrument(rng: &mut Rng, sheet: &Sheet, number: u64) -> u64 {
     let m = sheet.instruments() as u64;
     let batch = (number as usize).checked_sub(1);
     match batch.and_then(|b| sheet.batches().get(b)) {
-        Some(batch) if !rng.once_in(3) => *rng.pick(batch.list()) as u64,
-        Some(batch) if rng.once_in(2) => edge(rng, batch.place() as u64),
+        Some(batch) if !rng.once_in(3) => *rng.pick(&batch.list) as u64,
+        Some(batch) if rng.once_in(2) => edge(rng, batch.place as u64),
         _ => rng.below(m + 2),
     }
 }
 
 /// A list for an edit, sound about half of the time.
 fn list(rng: &mut Rng, sheet: &Sheet) -> Vec<u64> {
-    let m = sheet.instruments() as u32;
+    let m = sheet.instruments();
     let count = match rng.below(4) {
         0 => 1,
         1 => m,

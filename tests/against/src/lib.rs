@@ -61,26 +61,16 @@ impl Case {
         seen.sheets += 1;
         for call in &self.calls {
             let answer = second::apply(&mut sheet, call);
-            let number = match &answer {
-                Answer::Refused(refusal) => refusal.number(),
-                _ => 0,
-            };
-            seen.call(call, number);
-            write!(text, "{number}").unwrap();
+            seen.answer(call, &answer, sheet.instruments());
+            match answer {
+                Answer::Refused(refusal) => write!(text, "{}", refusal.number()).unwrap(),
+                _ => text.push('0'),
+            }
             match answer {
                 Answer::Done | Answer::Refused(_) => {}
-                Answer::Review(review) => {
-                    seen.review(&review);
-                    put_review(&mut text, &review);
-                }
-                Answer::Trial(trial) => {
-                    seen.trial(&trial, sheet.instruments());
-                    put_trial(&mut text, &trial);
-                }
-                Answer::Plan(plan) => {
-                    seen.plan(&plan);
-                    put_plan(&mut text, &plan);
-                }
+                Answer::Review(review) => put_review(&mut text, &review),
+                Answer::Trial(trial) => put_trial(&mut text, &trial),
+                Answer::Plan(plan) => put_plan(&mut text, &plan),
             }
             text.push('\n');
         }
@@ -114,8 +104,8 @@ fn put_call(stream: &mut Vec<u8>, call: &Call) {
 }
 
 fn put_review(text: &mut String, review: &Review) {
-    let improves = review.improves.unwrap_or(0);
-    write!(text, " {} {improves}", review.makespan).unwrap();
+    let gains = review.gains.unwrap_or(0);
+    write!(text, " {} {gains}", review.finish).unwrap();
     for load in &review.loads {
         write!(text, " {load}").unwrap();
     }
@@ -123,7 +113,7 @@ fn put_review(text: &mut String, review: &Review) {
 
 fn put_trial(text: &mut String, trial: &Trial) {
     let passed = matches!(trial.verdict, Verdict::Pass(_)) as u32;
-    write!(text, " {passed} {} {}", trial.lifts, trial.pushes).unwrap();
+    write!(text, " {passed} {} {}", trial.raises, trial.bumps).unwrap();
     match &trial.verdict {
         Verdict::Pass(places) => {
             for place in places {
@@ -131,7 +121,7 @@ fn put_trial(text: &mut String, trial: &Trial) {
             }
         }
         Verdict::Fail(group) => {
-            for member in group.numbers() {
+            for member in group {
                 write!(text, " {member}").unwrap();
             }
         }
@@ -139,10 +129,10 @@ fn put_trial(text: &mut String, trial: &Trial) {
 }
 
 fn put_plan(text: &mut String, plan: &Plan) {
-    write!(text, " {} {}", plan.makespan, plan.lower_bound).unwrap();
-    write!(text, " {} {} {}", plan.level, plan.lifts, plan.pushes).unwrap();
+    write!(text, " {} {}", plan.finish, plan.floor).unwrap();
+    write!(text, " {} {} {}", plan.level, plan.raises, plan.bumps).unwrap();
     write!(text, " {}", plan.moves).unwrap();
-    for member in plan.group.iter().flat_map(|group| group.numbers()) {
+    for member in plan.group.iter().flatten() {
         write!(text, " {member}").unwrap();
     }
 }
@@ -151,8 +141,10 @@ fn put_content(text: &mut String, sheet: &Sheet) {
     let batches = sheet.batches();
     writeln!(text, "S {} {}", sheet.instruments(), batches.len()).unwrap();
     for batch in batches {
-        write!(text, "{} {}", batch.length(), batch.place()).unwrap();
-        for instrument in batch.eligible().numbers() {
+        write!(text, "{} {}", batch.length, batch.place).unwrap();
+        let mut list = batch.list.clone();
+        list.sort();
+        for instrument in list {
             write!(text, " {instrument}").unwrap();
         }
         text.push('\n');
@@ -171,8 +163,8 @@ pub struct Seen {
     pub lines: [Vec<usize>; 10],
     /// By kind of call and by refusal number.
     pub calls: [[usize; 10]; 8],
-    /// Reviews of sheets on which some batch improves, and on which none does.
-    pub improving: usize,
+    /// Reviews of sheets on which some batch gains, and on which none does.
+    pub gaining: usize,
     pub settled: usize,
     pub trials: Trials,
     /// Plannings with a group and without one, and those that settling moved
@@ -227,6 +219,18 @@ impl Seen {
         lines[line] += 1;
     }
 
+    /// Count a call on a sheet of `m` instruments by what it was answered.
+    pub fn answer(&mut self, call: &Call, answer: &Answer, m: u32) {
+        match answer {
+            Answer::Done => {}
+            Answer::Refused(refusal) => return self.call(call, refusal.number()),
+            Answer::Review(review) => self.review(review),
+            Answer::Trial(trial) => self.trial(trial, m as usize),
+            Answer::Plan(plan) => self.plan(plan),
+        }
+        self.call(call, 0);
+    }
+
     fn call(&mut self, call: &Call, number: u32) {
         let kind = match call {
             Call::Add { .. } => 1,
@@ -242,8 +246,8 @@ impl Seen {
     }
 
     fn review(&mut self, review: &Review) {
-        match review.improves {
-            Some(_) => self.improving += 1,
+        match review.gains {
+            Some(_) => self.gaining += 1,
             None => self.settled += 1,
         }
     }
@@ -257,7 +261,7 @@ impl Seen {
     }
 
     fn trial(&mut self, trial: &Trial, m: usize) {
-        let steps = trial.lifts + trial.pushes;
+        let steps = trial.raises + trial.bumps;
         let long = (steps > 100_000) as usize;
         let t = &mut self.trials;
         match &trial.verdict {
@@ -268,8 +272,8 @@ impl Seen {
             }
             Verdict::Fail(group) => {
                 t.failed += 1;
-                t.partial += (group.size() < m) as usize;
-                t.several += (1 < group.size() && group.size() < m) as usize;
+                t.partial += (group.len() < m) as usize;
+                t.several += (1 < group.len() && group.len() < m) as usize;
                 t.long_failures += long;
             }
         }
@@ -281,7 +285,7 @@ impl Seen {
     pub fn add(&mut self, other: &Seen) {
         self.cases += other.cases;
         self.sheets += other.sheets;
-        self.improving += other.improving;
+        self.gaining += other.gaining;
         self.settled += other.settled;
         self.trials.add(&other.trials);
         self.grouped += other.grouped;
@@ -308,10 +312,10 @@ impl Seen {
             "{cases} cases, {sheets} read, {made} calls made, refusals 1 to 8: {refusals:?}"
         );
         if self.trials.steps > 0 {
-            let (some, none) = (self.improving, self.settled);
+            let (some, none) = (self.gaining, self.settled);
             write!(
                 text,
-                "; reviews {some} improving, {none} not; {:?}",
+                "; reviews {some} gaining, {none} not; {:?}",
                 self.trials
             )
             .unwrap();

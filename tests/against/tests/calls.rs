@@ -62,9 +62,9 @@ fn reviews_and_trials() {
     println!("{}", seen.summary());
     assert_eq!((seen.cases, seen.sheets), (24_000, 24_000));
     let reviews = seen.calls[5][0];
-    assert_eq!(reviews, seen.improving + seen.settled);
+    assert_eq!(reviews, seen.gaining + seen.settled);
     assert!(reviews >= 24_000);
-    assert!(seen.improving >= 10_000 && seen.settled >= 10_000);
+    assert!(seen.gaining >= 10_000 && seen.settled >= 10_000);
     assert!(seen.calls[6][8] >= 48_000, "levels above the total");
     let trials = &seen.trials;
     assert_eq!(seen.calls[6][0], trials.passed + trials.failed);
@@ -79,14 +79,14 @@ fn reviews_and_trials() {
 
 #[test]
 fn hard_sheets() {
-    let seen = compare_runs(30, |run| cases::hard(run, 2));
+    let seen = compare_runs(4, |run| cases::hard(run, 1));
     println!("{}", seen.summary());
-    assert_eq!((seen.cases, seen.sheets), (60, 60));
+    assert_eq!((seen.cases, seen.sheets), (4, 4));
     let trials = &seen.trials;
     assert!(trials.most >= 200_000);
-    assert!(trials.long_passes + trials.long_failures >= 1_000);
-    assert!(trials.passed >= 1_000 && trials.failed >= 1_000);
-    assert!(trials.several >= 1_000);
+    assert!(trials.long_passes + trials.long_failures >= 100);
+    assert!(trials.passed >= 100 && trials.failed >= 100);
+    assert!(trials.several >= 100);
 }
 
 #[test]

@@ -99,38 +99,38 @@ fn field(text: &str) -> Option<u64> {
     (format!("{number:>6}") == text).then_some(number)
 }
 
-/// The line of an answer.
-fn put_answer(text: &mut Vec<u8>, answer: &Answer) {
+/// Add the line of an answer.
+pub fn put_answer(text: &mut Vec<u8>, answer: &Answer) {
     match answer {
         Answer::Refused(refusal) => put_numbers(text, [refusal.number() as u64]),
         Answer::Done => put_numbers(text, [0]),
         Answer::Review(review) => {
-            let improves = review.improves.unwrap_or(0) as u64;
-            put_numbers(text, [0, review.makespan as u64, improves]);
+            let gains = review.gains.unwrap_or(0) as u64;
+            put_numbers(text, [0, review.finish as u64, gains]);
             put_numbers(text, review.loads.iter().map(|&load| load as u64));
         }
         Answer::Trial(trial) => {
             let passed = matches!(trial.verdict, Verdict::Pass(_)) as u64;
-            put_numbers(text, [0, passed, trial.lifts as u64, trial.pushes as u64]);
+            put_numbers(text, [0, passed, trial.raises as u64, trial.bumps as u64]);
             match &trial.verdict {
                 Verdict::Pass(places) => put_numbers(text, places.iter().map(|&j| j as u64)),
-                Verdict::Fail(group) => put_numbers(text, group.numbers().map(|j| j as u64)),
+                Verdict::Fail(group) => put_numbers(text, group.iter().map(|&j| j as u64)),
             }
         }
         Answer::Plan(plan) => {
             let figures = [
                 0,
-                plan.makespan,
-                plan.lower_bound,
+                plan.finish,
+                plan.floor,
                 plan.level,
-                plan.lifts,
-                plan.pushes,
+                plan.raises,
+                plan.bumps,
             ];
             put_numbers(text, figures.map(u64::from));
             put_columns::<12>(text, plan.moves);
-            let group: Vec<usize> = plan.group.iter().flat_map(|g| g.numbers()).collect();
+            let group = plan.group.as_deref().unwrap_or(&[]);
             put_numbers(text, [group.len() as u64]);
-            put_numbers(text, group.into_iter().map(|j| j as u64));
+            put_numbers(text, group.iter().map(|&j| j as u64));
         }
     }
     text.push(b'\n');

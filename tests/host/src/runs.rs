@@ -12,7 +12,7 @@ use second::{Call, Sheet};
 
 use crate::check::Lent;
 use crate::due::Due;
-use crate::journal::{answers, journal, numbers, read, GREATEST};
+use crate::journal::{answers, journal, numbers, put_answer, read, GREATEST};
 use crate::{run, Hosted};
 
 /// The fewest bytes that an answer has: that of an edit.
@@ -139,7 +139,7 @@ pub struct Arguments {
 }
 
 impl Arguments {
-    fn calls(&mut self, calls: &[Call], instruments: usize, bytes: usize) {
+    fn calls(&mut self, calls: &[Call], instruments: u32, bytes: usize) {
         for call in calls {
             let numbers = numbers(call);
             self.greatest += numbers.contains(&GREATEST) as usize;
@@ -234,14 +234,20 @@ pub fn compare(shares: u64, make: impl Fn(u64) -> Vec<Case> + Sync) -> Met {
     shared(shares, |share, judge, met| {
         for (k, mut case) in make(share).into_iter().enumerate() {
             let mut sheet = second::read(&case.sheet).expect("a sheet without a fault");
-            let mut text = answers(&mut sheet, &case.calls);
+            met.seen.cases += 1;
+            met.seen.sheets += 1;
+            let mut text = Vec::new();
+            let mut make = |sheet: &mut Sheet, call: &Call| {
+                let answer = second::apply(sheet, call);
+                met.seen.answer(call, &answer, sheet.instruments());
+                put_answer(&mut text, &answer);
+            };
+            case.calls.iter().for_each(|call| make(&mut sheet, call));
             let last = shown(&sheet);
-            text.extend(answers(&mut sheet, &last));
+            last.iter().for_each(|call| make(&mut sheet, call));
             case.calls.extend(last);
             let journal = journal(&case.calls);
             assert_eq!(read(&journal).as_ref(), Ok(&case.calls), "the form itself");
-            met.seen.cases += 1;
-            case.expected(&mut met.seen);
             met.arguments
                 .calls(&case.calls, sheet.instruments(), text.len());
             judge

@@ -24,15 +24,18 @@ fn every_size() {
     let mut judge = Judge::new(plan);
     let (mut short, mut enough, mut bad) = (0, 0, 0);
     let mut rng = Rng::new(11);
-    let mut sheets: Vec<Vec<u8>> = cases::sound(12, 60)
+    // Each size is a planning, so the sheets are small, but for a full one
+    // that is planned quickly.
+    let mut sheets: Vec<Vec<u8>> = cases::sound(12, 150)
         .into_iter()
         .chain(cases::faulty(13, 60))
         .map(|case| case.sheet)
+        .filter(|sheet| sheet.len() <= 3_000)
         .collect();
     let kind = Kind {
-        lists: Lists::Short,
-        lengths: Lengths::Random,
-        places: Places::Crowded,
+        lists: Lists::Long,
+        lengths: Lengths::Equal,
+        places: Places::Given,
     };
     sheets.push(kind.sheet(&mut rng));
     for sheet in sheets {

@@ -46,7 +46,7 @@ impl Draft {
     /// The sheet that reading the bytes must give, made by edits instead.
     /// Panics on a draft with a fault.
     pub fn sheet(&self) -> Sheet {
-        let mut sheet = Sheet::empty(self.instruments as usize).expect("instruments in range");
+        let mut sheet = Sheet::empty(self.instruments).expect("instruments in range");
         for (i, line) in self.lines.iter().enumerate() {
             let list: Vec<u64> = line.list.iter().map(|&j| j as u64).collect();
             sheet.add(line.length as u64, &list).expect("a sound line");
@@ -64,14 +64,14 @@ impl Draft {
 impl From<&Sheet> for Draft {
     fn from(sheet: &Sheet) -> Draft {
         Draft {
-            instruments: sheet.instruments() as u32,
+            instruments: sheet.instruments(),
             lines: sheet
                 .batches()
                 .iter()
                 .map(|b| Line {
-                    length: b.length(),
-                    place: b.place() as u32,
-                    list: b.list().iter().map(|&j| j as u32).collect(),
+                    length: b.length,
+                    place: b.place,
+                    list: b.list.clone(),
                 })
                 .collect(),
         }

@@ -20,7 +20,7 @@ pub const SMALL: Shape = Shape {
     lengths: (1, 9),
 };
 
-/// Large enough for long chains, small enough for the plain version.
+/// Large enough for long chains, small enough to watch every step.
 pub const MEDIUM: Shape = Shape {
     instruments: (1, 9),
     batches: (0, 30),
@@ -236,13 +236,13 @@ pub fn calls(rng: &mut Rng, m: u32, n: u32, longest: u32, count: usize) -> Vec<C
 /// A sheet at the limits on which trials make very many steps.
 ///
 /// The last instrument is empty and nothing can go there, so a trial never
-/// runs out of underloaded instruments. Each of the others has a long batch
-/// that cannot leave it. A few more long batches are free and fit nowhere, and
-/// to reach them an instrument must first push off all of the minute-long
+/// runs out of light instruments. Each of the others has a long batch that
+/// cannot leave it. A few more long batches are free and fit nowhere, and to
+/// reach them an instrument must first bump off all of the minute-long
 /// batches, which have lower numbers.
 pub fn hard(seed: u64) -> Sheet {
     let mut rng = Rng::new(seed);
-    let m = Sheet::INSTRUMENTS as u32;
+    let m = Sheet::INSTRUMENTS;
     let open: Vec<u32> = (1..m).collect();
     let long = rng.within(Sheet::LENGTH - 40, Sheet::LENGTH);
     let free = rng.within(2, 3);

@@ -1,17 +1,15 @@
-//! A second planner for bank queue sheets.
+//! A second planner for bank queue sheets, written from document 01 to be read
+//! beside it: its words are the names here, and each module says which of its
+//! sections it follows. Loads are kept; all else is found by looking.
 //!
-//! It reads sheets, edits them, reviews them, tries levels, plans and lists.
-//! It is written for speed and to be compared with another implementation.
-//! The module [`literal`] holds the same rules once more, slow and plain, so
-//! that the fast code here has something to be held against.
+//! [`draft`], [`gen`] and [`rng`] are no part of the planner: they make sheets,
+//! files and calls for tests.
 
 pub mod draft;
 pub mod gen;
 pub mod listing;
-pub mod literal;
 pub mod plan;
 pub mod read;
-pub mod review;
 pub mod rng;
 pub mod run;
 pub mod settle;
@@ -20,10 +18,9 @@ pub mod trial;
 
 pub use draft::{Draft, Line};
 pub use listing::{host, program, HostAnswer};
-pub use plan::{balance, plan, Balance, Plan};
+pub use plan::{plan, Plan};
 pub use read::{read, Fault};
-pub use review::{review, Review};
 pub use run::{apply, run, Answer, Call};
-pub use settle::settle;
-pub use sheet::{Batch, Group, Refusal, Sheet};
+pub use settle::{review, settle, Review};
+pub use sheet::{Batch, Refusal, Sheet};
 pub use trial::{trial, Trial, Verdict};

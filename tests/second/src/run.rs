@@ -1,7 +1,7 @@
-//! Calls in any order on one sheet, and what each answers.
+//! Calls one after the other on one sheet (document 01, "Runs").
 
 use crate::plan::{plan, Plan};
-use crate::review::{review, Review};
+use crate::settle::{review, Review};
 use crate::sheet::{Refusal, Sheet};
 use crate::trial::{trial, Trial};
 
@@ -28,24 +28,18 @@ pub enum Answer {
 
 /// Make one call.
 pub fn apply(sheet: &mut Sheet, call: &Call) -> Answer {
-    let edit = match call {
-        Call::Add { length, list } => sheet.add(*length, list),
-        Call::Withdraw { number } => sheet.withdraw(*number),
-        Call::Requalify { number, list } => sheet.requalify(*number, list),
-        Call::Move { number, instrument } => sheet.shift(*number, *instrument),
-        Call::Review => return Answer::Review(review(sheet)),
-        Call::Trial { level } => {
-            return match trial(sheet, *level) {
-                Ok(done) => Answer::Trial(done),
-                Err(refusal) => Answer::Refused(refusal),
-            };
+    let answer = match call {
+        Call::Add { length, list } => sheet.add(*length, list).map(|()| Answer::Done),
+        Call::Withdraw { number } => sheet.withdraw(*number).map(|()| Answer::Done),
+        Call::Requalify { number, list } => sheet.requalify(*number, list).map(|()| Answer::Done),
+        Call::Move { number, instrument } => {
+            sheet.shift(*number, *instrument).map(|()| Answer::Done)
         }
-        Call::Plan => return Answer::Plan(plan(sheet)),
+        Call::Review => Ok(Answer::Review(review(sheet))),
+        Call::Trial { level } => trial(sheet, *level).map(Answer::Trial),
+        Call::Plan => Ok(Answer::Plan(plan(sheet))),
     };
-    match edit {
-        Ok(()) => Answer::Done,
-        Err(refusal) => Answer::Refused(refusal),
-    }
+    answer.unwrap_or_else(Answer::Refused)
 }
 
 /// Make all calls in order; the sheet is left as the last one leaves it.

@@ -49,12 +49,12 @@ fn p1_listing() {
 fn p2_all_on_one() {
     let (_, plan) = planned(&three_tens());
     let expected = Plan {
-        makespan: 30,
-        lower_bound: 30,
-        group: Some(Group(1)),
+        finish: 30,
+        floor: 30,
+        group: Some(vec![1]),
         level: 20,
-        lifts: 0,
-        pushes: 0,
+        raises: 0,
+        bumps: 0,
         moves: 0,
     };
     assert_eq!(plan, expected);
@@ -68,7 +68,7 @@ fn p2_all_on_one() {
 fn p3_no_batch() {
     for m in [1, 2, 23, 24] {
         let (_, plan) = planned(&Draft::new(m, &[]));
-        assert_eq!((plan.makespan, plan.lower_bound, plan.level), (0, 0, 0));
+        assert_eq!((plan.finish, plan.floor, plan.level), (0, 0, 0));
         assert_eq!((plan.group, plan.moves), (None, 0));
         let listing = program(&Draft::new(m, &[]).render());
         let expected = b"     0     0     0     0     0           0\n     0\n";
@@ -80,10 +80,10 @@ fn p3_no_batch() {
 fn p4_one_long_batch() {
     for (m, list) in [(1, vec![1]), (2, vec![2]), (24, vec![7, 3, 24])] {
         let (sheet, plan) = planned(&Draft::new(m, &[(1440, 0, &list)]));
-        let numbers = (plan.makespan, plan.lower_bound, plan.level);
+        let numbers = (plan.finish, plan.floor, plan.level);
         assert_eq!(numbers, (1440, 1440, 0));
         assert_eq!(plan.group, None);
-        assert_eq!(sheet.places(), [list[0] as u8]);
+        assert_eq!(sheet.places(), [list[0]]);
     }
 }
 
@@ -94,16 +94,16 @@ fn two_loads(first: u32) -> Sheet {
 #[test]
 fn p5_equality_is_no_gain() {
     let answer = review(&two_loads(30));
-    assert_eq!((answer.loads, answer.makespan), (vec![30, 20], 30));
-    assert_eq!(answer.improves, None);
+    assert_eq!((answer.loads, answer.finish), (vec![30, 20], 30));
+    assert_eq!(answer.gains, None);
     assert_eq!(settle(&mut two_loads(30)), 0);
 }
 
 #[test]
 fn p6_one_minute_is_a_gain() {
     let answer = review(&two_loads(31));
-    assert_eq!((answer.loads, answer.makespan), (vec![31, 20], 31));
-    assert_eq!(answer.improves, Some(3));
+    assert_eq!((answer.loads, answer.finish), (vec![31, 20], 31));
+    assert_eq!(answer.gains, Some(3));
     let mut sheet = two_loads(31);
     assert_eq!(settle(&mut sheet), 1);
     assert_eq!(sheet.places(), [1, 2, 2]);
@@ -114,8 +114,8 @@ fn p7_trial_at_0() {
     let sheet = read(P1).unwrap();
     let expected = Trial {
         verdict: Verdict::Pass(vec![2, 1, 1]),
-        lifts: 2,
-        pushes: 2,
+        raises: 2,
+        bumps: 2,
     };
     assert_eq!(trial(&sheet, 0), Ok(expected));
 }
@@ -124,11 +124,11 @@ fn p7_trial_at_0() {
 fn p8_trials_at_19_and_20() {
     let sheet = three_tens().sheet();
     let failed = trial(&sheet, 19).unwrap();
-    assert_eq!(failed.verdict, Verdict::Fail(Group(1)));
+    assert_eq!(failed.verdict, Verdict::Fail(vec![1]));
     let passed = Trial {
         verdict: Verdict::Pass(vec![1, 1, 1]),
-        lifts: 0,
-        pushes: 0,
+        raises: 0,
+        bumps: 0,
     };
     assert_eq!(trial(&sheet, 20), Ok(passed));
 }
@@ -181,8 +181,8 @@ fn level_up_to_the_total() {
     let none = Sheet::empty(5).unwrap();
     let passed = Trial {
         verdict: Verdict::Pass(vec![]),
-        lifts: 0,
-        pushes: 0,
+        raises: 0,
+        bumps: 0,
     };
     assert_eq!(trial(&none, 0), Ok(passed));
     assert_eq!(trial(&none, 1), Err(Refusal::Level));
@@ -214,29 +214,26 @@ fn passing_is_not_monotone() {
     .sheet();
     let passes = |level| matches!(trial(&sheet, level).unwrap().verdict, Verdict::Pass(_));
     assert!(passes(0) && !passes(1) && passes(2));
-    // The search only meets neighbours: one failed just below the one kept.
-    let found = balance(&sheet);
-    assert!(passes(found.level as u64));
-    if let Some((failed, _)) = found.failed {
-        assert_eq!(failed + 1, found.level);
-    }
+    // Level 2 is the first that halving tries, 0 the next.
+    assert_eq!(sheet.finish(), 6);
+    let answer = plan(&mut sheet.clone());
+    assert_eq!((answer.level, answer.group), (0, None));
 }
 
 #[test]
 fn an_instrument_waits_for_a_lower_one() {
-    // Both instruments are overloaded at 0; the first acts first, then the
-    // second, and the third takes what they push off.
+    // Two instruments are over at 0; the lower one acts first.
     let sheet = Draft::new(
         3,
         &[(2, 1, &[1, 3]), (2, 1, &[1]), (2, 2, &[2, 3]), (2, 2, &[2])],
     )
     .sheet();
     let answer = trial(&sheet, 0).unwrap();
-    // First to third: two lifts, two pushes. Then nothing is underloaded.
+    // First to third: two raises, two bumps. Then none is light.
     let expected = Trial {
-        verdict: Verdict::Fail(Group(0b111)),
-        lifts: 2,
-        pushes: 2,
+        verdict: Verdict::Fail(vec![1, 2, 3]),
+        raises: 2,
+        bumps: 2,
     };
     assert_eq!(answer, expected);
 }

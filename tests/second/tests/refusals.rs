@@ -267,7 +267,7 @@ fn list_of_all_instruments() {
     for m in 1..=24u32 {
         let list: Vec<u32> = (1..=m).rev().collect();
         let sheet = read(&Draft::new(m, &[(5, 0, &list)]).render()).unwrap();
-        assert_eq!(sheet.batches()[0].place(), m as usize);
+        assert_eq!(sheet.batches()[0].place, m);
         for bad in [0, m + 1] {
             for k in 0..m as usize {
                 let mut list = list.clone();
@@ -297,8 +297,8 @@ fn every_place() {
         for place in 0..=m + 2 {
             let file = Draft::new(m, &[(5, place, &list)]).render();
             if place == 0 || list.contains(&place) {
-                let expected = if place == 0 { 1 } else { place as usize };
-                assert_eq!(read(&file).unwrap().batches()[0].place(), expected);
+                let expected = if place == 0 { 1 } else { place };
+                assert_eq!(read(&file).unwrap().batches()[0].place, expected);
             } else {
                 assert_eq!(refused(&file), (5, 2));
             }
@@ -325,109 +325,4 @@ fn buffers_of_every_length() {
             }
         }
     }
-}
-
-/// Make an edit that must be refused and see that nothing changed.
-fn turned_down(sheet: &Sheet, call: Call) -> u32 {
-    let mut after = sheet.clone();
-    let Answer::Refused(refusal) = apply(&mut after, &call) else {
-        panic!("not refused: {call:?}");
-    };
-    assert_eq!(&after, sheet);
-    refusal.number()
-}
-
-const ODD: [u64; 6] = [0, 4, 33, 257, 1 << 32, u64::MAX];
-
-#[test]
-fn edits_refused() {
-    let sheet = Draft::new(3, &[(5, 0, &[2, 1]), (6, 0, &[3]), (7, 1, &[1, 2, 3])]).sheet();
-    let bad_lists: Vec<Vec<u64>> = ODD
-        .iter()
-        .flat_map(|&j| [vec![j], vec![1, j], vec![j, 2, 1]])
-        .chain([
-            vec![],
-            vec![1, 1],
-            vec![3, 2, 3],
-            vec![1, 2, 3, 1],
-            vec![1, 2, 3, 4],
-        ])
-        .collect();
-    for list in &bad_lists {
-        for length in [0, 1441, 65_537, 1 << 32, u64::MAX] {
-            let list = list.clone();
-            assert_eq!(turned_down(&sheet, Call::Add { length, list }), 3);
-        }
-        for length in [1, 1440] {
-            let list = list.clone();
-            assert_eq!(turned_down(&sheet, Call::Add { length, list }), 4);
-        }
-        for number in ODD {
-            let list = list.clone();
-            assert_eq!(turned_down(&sheet, Call::Requalify { number, list }), 6);
-        }
-        for number in 1..=3 {
-            let list = list.clone();
-            assert_eq!(turned_down(&sheet, Call::Requalify { number, list }), 4);
-        }
-    }
-    for number in ODD {
-        assert_eq!(turned_down(&sheet, Call::Withdraw { number }), 6);
-        let list = vec![1];
-        assert_eq!(turned_down(&sheet, Call::Requalify { number, list }), 6);
-        for instrument in [0, 1, 9] {
-            let call = Call::Move { number, instrument };
-            assert_eq!(turned_down(&sheet, call), 6);
-        }
-    }
-    for instrument in ODD {
-        for number in 1..=3 {
-            let call = Call::Move { number, instrument };
-            assert_eq!(turned_down(&sheet, call), 5);
-        }
-    }
-    let call = Call::Move {
-        number: 1,
-        instrument: 3,
-    };
-    assert_eq!(turned_down(&sheet, call), 5);
-
-    let full = Draft::new(3, &vec![(5, 0, [2].as_slice()); 200]).sheet();
-    for list in &bad_lists {
-        for length in [0, 1, 1441] {
-            let list = list.clone();
-            assert_eq!(turned_down(&full, Call::Add { length, list }), 7);
-        }
-    }
-    let total = sheet.total() as u64;
-    for level in [total + 1, u64::MAX] {
-        assert_eq!(turned_down(&sheet, Call::Trial { level }), 8);
-    }
-}
-
-#[test]
-fn edits_made() {
-    let mut sheet = Draft::new(4, &[(5, 0, &[2, 1]), (6, 0, &[3]), (7, 1, &[1, 2, 3])]).sheet();
-    sheet.add(1440, &[4, 2]).unwrap();
-    assert_eq!(sheet.places(), [2, 3, 1, 4]);
-    sheet.shift(4, 2).unwrap();
-    sheet.shift(1, 2).unwrap();
-    sheet.shift(1, 1).unwrap();
-    assert_eq!(sheet.places(), [1, 3, 1, 2]);
-    // Kept where the place is listed, wherever it stands in the list.
-    sheet.requalify(4, &[3, 2]).unwrap();
-    assert_eq!(sheet.places(), [1, 3, 1, 2]);
-    // Otherwise the first listed.
-    sheet.requalify(4, &[4, 1]).unwrap();
-    assert_eq!(sheet.places(), [1, 3, 1, 4]);
-    assert_eq!(sheet.batches()[3].list(), [4, 1]);
-    sheet.withdraw(2).unwrap();
-    assert_eq!(sheet.places(), [1, 1, 4]);
-    let lengths: Vec<u32> = sheet.batches().iter().map(Batch::length).collect();
-    assert_eq!(lengths, [5, 7, 1440]);
-    sheet.withdraw(3).unwrap();
-    sheet.withdraw(1).unwrap();
-    sheet.withdraw(1).unwrap();
-    assert_eq!(sheet, Sheet::empty(4).unwrap());
-    assert_eq!(sheet.withdraw(1), Err(Refusal::NoBatch));
 }

@@ -6,7 +6,8 @@
 //! counts is this thread's processor time, so that other work on the machine
 //! disturbs less. The times are the middle ones of all rounds, in microseconds
 //! a sheet, and the ratio is the middle one of the rounds' ratios. The least
-//! times and their ratio follow.
+//! times and their ratio follow. The goal is a ratio of at most 1.5 on every
+//! kind of sheet.
 
 use std::env;
 use std::hint::black_box;
@@ -15,6 +16,9 @@ use host::kinds::{self, Kind, Lengths, Lists, Places};
 use host::listing::MOST;
 use host::{plan, plan_second, Hosted};
 use second::rng::Rng;
+
+/// The greatest ratio that is good enough.
+const GOAL: f64 = 1.5;
 
 /// Sheets of a kind.
 const SHEETS: u64 = 24;
@@ -112,7 +116,7 @@ fn row(name: &str, sheets: &[Vec<u8>], rounds: usize) -> [f64; 2] {
 
 fn main() {
     let given = env::args().nth(1);
-    let rounds = given.map_or(61, |word| word.parse().expect("a number of rounds"));
+    let rounds = given.map_or(15, |word| word.parse().expect("a number of rounds"));
     assert!(rounds > 0, "at least one round");
     println!(
         "{:<46} {:>9} {:>9} {:>7}   {:>9} {:>9} {:>7}",
@@ -143,7 +147,7 @@ fn main() {
         time(name, (0..SHEETS).map(bad).collect());
     }
     println!(
-        "worst ratio {:.3}, of least times {:.3}",
+        "worst ratio {:.3}, of least times {:.3}; the goal is at most {GOAL}",
         worst[0], worst[1]
     );
 }

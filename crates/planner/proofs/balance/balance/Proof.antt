@@ -8,30 +8,22 @@ use borrow.Author.Tests.{lt-ltb, le-ltb}
 use Rattle.rules.specs.Instance.{Instance}
 use Rattle.rules.specs.Load.{longest, makespan}
 use Rattle.trials.specs.Attempt.{Standing}
-use Rattle.trials.proofs.Trying.{places-in}
 use Rattle.planner.specs.Search.{Seeking}
 use Rattle.planner.proofs.Seeking.{less-left, seeking-first, seeking-next, seeking-end}
-use borrow.Author.Needs.{needs}
 use Rattle.planner.proofs.balance.balance.Statement.{statement}
 use Rattle.planner.proofs.balance.balance.Tie as tie
 
 abbrev Inv-loop : tie.InvT-loop
-Inv-loop loads minutes masks m n most highest places s₀ rows s =
+Inv-loop places loads minutes masks m n most highest s₀ s =
     (s .failed1 ≤ s .level) × (s .level ≤ 288000)
     × ((I : Instance) → Standing I m n minutes masks places loads → most ≡ longest I → highest ≡ makespan I (take n places)
     → Seeking I m n (take n places) s)
 
 abbrev μ-loop : tie.MeasureT-loop
-μ-loop loads minutes masks m n most highest places s₀ rows s = s .level - s .failed1
-
-slice-aggregate-rows-of : tie.Need-slice-aggregate-rows-of Inv-loop μ-loop
-slice-aggregate-rows-of c = search needs
-
-rows-of-requires : tie.Need-rows-of-requires Inv-loop μ-loop
-rows-of-requires c κs = let v = c .before .before .before .pre .0 .1 in let u = v .reads .most in (u, search needs, places-in v)
+μ-loop places loads minutes masks m n most highest s₀ s = s .level - s .failed1
 
 loop-holds : tie.Need-loop-holds Inv-loop μ-loop
-loop-holds c = (omega arith, omega (arith, c .before .before .before .before .pre .1 .3), λ I v p q. seeking-first v _ q)
+loop-holds c = (omega arith, omega (arith, c .before .before .pre .1 .3), λ I v p q. seeking-first v _ q)
 
 add-a : tie.Need-add-a Inv-loop μ-loop
 add-a c = omega (arith, c .before .before .before .loop .inv .0, c .before .before .before .loop .inv .1)
@@ -40,12 +32,12 @@ sub-a : tie.Need-sub-a Inv-loop μ-loop
 sub-a c = omega (arith, c .before .if1 .taken)
 
 add-try-level : tie.Need-add-try-level Inv-loop μ-loop
-add-try-level c = omega (arith, c .before .before .before .loop .inv .0, c .before .before .before .loop .inv .1, c .before .before .before .before .before .before .before .before .pre .1 .2)
+add-try-level c = omega (arith, c .before .before .before .loop .inv .0, c .before .before .before .loop .inv .1, c .before .before .before .before .before .before .pre .1 .2)
 
 try-level-requires : tie.Need-try-level-requires Inv-loop μ-loop
 try-level-requires c κs =
-    let p = c .before .before .before .before .before .before .before .before .pre in
-    ((p .0 .0, p .0 .1, omega (arith, p .0 .2)), (p .1 .0, p .1 .1, c .before .before .before .before .rows-of .ensures))
+    let p = c .before .before .before .before .before .before .pre in
+    ((p .0 .0, p .0 .1, omega (arith, p .0 .2)), (p .1 .0, p .1 .1))
 
 learn-requires : tie.Need-learn-requires Inv-loop μ-loop
 learn-requires c κs = omega (arith, c .before .before .before .before .loop .inv .1)
@@ -78,8 +70,6 @@ balance-spec =
     (tie.spec
     Inv-loop
     μ-loop
-    slice-aggregate-rows-of
-    rows-of-requires
     loop-holds
     add-a
     sub-a

@@ -4,59 +4,40 @@ use Prim.Native.Nat.{_≤_, _-_}
 use mathlib.Core.Path.{_≡_, sym, _∙_}
 use native.Mathlib.Numerals.{add-one}
 use native.Mathlib.Omega.{arith}
-use Rattle.rules.specs.Fold.{at}
+use lib.ListN.{take}
+use Rattle.rules.specs.Instance.{Instance}
+use Rattle.rules.specs.Load.{improves}
 use Rattle.theory.proofs.View.{None, none-zero, none-more, first-hit, first-miss}
-use Rattle.planner.specs.Settling.{improvesIn}
-use Rattle.planner.proofs.Placing.{first-is, known-long, known-place}
+use Rattle.arrays.specs.Reads.{Reads}
+use Rattle.planner.specs.Settling.{Placing}
 use borrow.Author.Needs.{needs}
 use Rattle.planner.proofs.improve.first_improving.Statement.{statement}
 use Rattle.planner.proofs.improve.first_improving.Tie as tie
 
 abbrev Inv-loop : tie.InvT-loop
-Inv-loop loads places minutes masks n m b₀ b = (b ≤ n) × None b (λ j. improvesIn loads (at masks j) (at places j) (at minutes j) m)
+Inv-loop loads places minutes masks n m b₀ b =
+    (b ≤ n) × ((I : Instance) → Reads I m n minutes masks → Placing I m n places loads → None b (λ j. improves I (take n places) j))
 
 abbrev μ-loop : tie.MeasureT-loop
 μ-loop loads places minutes masks n m b₀ b = n - b
 
 loop-holds : tie.Need-loop-holds Inv-loop μ-loop
-loop-holds c = (omega arith, none-zero _)
+loop-holds c = (omega arith, λ I r p. none-zero _)
 
-mul-improves-where : tie.Need-mul-improves-where Inv-loop μ-loop
-mul-improves-where c = search needs
-
-shared-slice-read-improves-where : tie.Need-shared-slice-read-improves-where Inv-loop μ-loop
-shared-slice-read-improves-where c = search needs
-
-shared-slice-read-improves-where-2 : tie.Need-shared-slice-read-improves-where-2 Inv-loop μ-loop
-shared-slice-read-improves-where-2 c = omega (arith, known-long (c .before .before .before .before .before .before .before .before .pre))
-
-mul-improves-where-2 : tie.Need-mul-improves-where-2 Inv-loop μ-loop
-mul-improves-where-2 c = search needs
-
-shared-slice-read-improves-where-3 : tie.Need-shared-slice-read-improves-where-3 Inv-loop μ-loop
-shared-slice-read-improves-where-3 c = search needs
-
-cast-improves-where : tie.Need-cast-improves-where Inv-loop μ-loop
-cast-improves-where c = omega (arith, c .shared-slice-known7 .given (c .before .before .before .before .loop .b))
-
-improves-where-requires : tie.Need-improves-where-requires Inv-loop μ-loop
-improves-where-requires c κs =
-    let st = c .before .before .before .before .before .before .before .before .before in
-    let z = known-place (st .pre) (c .before .before .before .before .loop .b) (omega arith) in
-    (st .pre .said .reads .few, st .pre .placing .long, z .0, z .1)
+improves-requires : tie.Need-improves-requires Inv-loop μ-loop
+improves-requires c κs = (_, c .before .before .before .before .before .before .pre, c .loop-test .taken)
 
 add-result : tie.Need-add-result Inv-loop μ-loop
 add-result c = search needs
 
 returns : tie.Need-returns Inv-loop μ-loop
 returns c =
-    let at-loop = c .before .before .before .before .before .before in
-    let st = at-loop .before .before .before .before .before in
-    let b = at-loop .loop .b in
+    let at-loop = c .before .before .before in
+    let n = at-loop .before .before .before .before .before .args .n in
+    let u = c .before .before .loop-test .taken in
     λ I r p.
-    add-one b
-    ∙ sym (first-hit (st .args .n) _ b (omega arith) (at-loop .loop .inv .1) (sym (c .before .improves-where .ensures) ∙ c .if1 .taken))
-    ∙ first-is r p
+    add-one (at-loop .loop .b)
+    ∙ sym (first-hit n _ (at-loop .loop .b) u (at-loop .loop .inv .1 I r p) (sym (c .before .improves .ensures I n r p u) ∙ c .if1 .taken))
 
 add-b : tie.Need-add-b Inv-loop μ-loop
 add-b c = search needs
@@ -66,15 +47,19 @@ loop-less c = search needs
 
 loop-again : tie.Need-loop-again Inv-loop μ-loop
 loop-again c =
-    let at-loop = c .before .before .before .before .before .before in
-    let b = at-loop .loop .b in
-    (omega arith, rw (add-one b) (none-more b _ (at-loop .loop .inv .1) (sym (c .before .improves-where .ensures) ∙ c .if1 .left)))
+    let at-loop = c .before .before .before in
+    let b = at-loop .loop .b in (
+      omega arith,
+      λ I r p.
+          rw (add-one b)
+          (none-more b _ (at-loop .loop .inv .1 I r p) (sym (c .before .improves .ensures I _ r p (c .before .before .loop-test .taken)) ∙ c .if1 .left)),
+    )
 
 returns-2 : tie.Need-returns-2 Inv-loop μ-loop
 returns-2 c =
-    let st = c .before .before .before .before .before .before in
-    let e : c .before .loop .b ≡ st .args .n = omega arith in
-    λ I r p. sym (first-miss (st .args .n) _ (rw e at (c .before .loop .inv .1))) ∙ first-is r p
+    let n = c .before .before .before .before .before .before .args .n in
+    let e : c .before .loop .b ≡ n = omega arith in
+    λ I r p. sym (first-miss n _ (rw e at (c .before .loop .inv .1 I r p)))
 
 pub first-improving-spec : {M : Type 1} → statement M
 first-improving-spec =
@@ -83,13 +68,7 @@ first-improving-spec =
     Inv-loop
     μ-loop
     loop-holds
-    mul-improves-where
-    shared-slice-read-improves-where
-    shared-slice-read-improves-where-2
-    mul-improves-where-2
-    shared-slice-read-improves-where-3
-    cast-improves-where
-    improves-where-requires
+    improves-requires
     add-result
     returns
     add-b

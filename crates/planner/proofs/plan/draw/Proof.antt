@@ -1,9 +1,11 @@
 -- The figures of the search, of settling after it, and of the group.
 -- Assumes nothing.
-use lib.ListN.{length}
+use lib.ListN.{length, take}
 use mathlib.Core.Path.{_≡_, _∙_}
 use native.Mathlib.Omega.{arith}
-use Rattle.planner.proofs.Drawing.{most-is, makespan-is, most-few, makespan-few, sought-placing, sought-known, drawn}
+use Rattle.theory.proofs.Small.{longest-small, makespan-small}
+use Rattle.planner.proofs.Shows.{longest-is}
+use Rattle.planner.proofs.Drawing.{makespan-is, sought-placing, sought-known, drawn}
 use borrow.Author.Needs.{needs}
 use Rattle.planner.proofs.plan.draw.Statement.{statement}
 use Rattle.planner.proofs.plan.draw.Tie as tie
@@ -19,17 +21,18 @@ largest-load-requires c κs = let st = c .before .before .before .before .pre .0
 
 balance-requires : tie.Need-balance-requires
 balance-requires c κs =
-    let p = c .before .before .before .before .before .pre in
+    let s = c .before .before .before .before .before in
+    let p = s .pre in
     let st = p .0 .1 in
-    let most = c .before .before .largest .ensures ∙ most-is st in
+    let most = c .before .before .largest .ensures ∙ longest-is (st .reads) in
     let highest = c .largest-load .ensures ∙ makespan-is st in
-    ((p .0 .0, st, most, highest), (p .1 .0, p .1 .1, omega (arith, most-few st), omega (arith, makespan-few st)))
+    ((p .0 .0, st, most, highest), (p .1 .0, p .1 .1, omega (arith, longest-small (st .reads .small)), omega (arith, makespan-small (st .reads .small) (take (s .args .n) (s .args .places)))))
 
 settle-requires : tie.Need-settle-requires
 settle-requires c κs =
     let p = c .before .before .before .before .before .before .before .before .pre in
     let st = p .0 .1 in
-    let most = c .before .before .before .before .before .largest .ensures ∙ most-is st in
+    let most = c .before .before .before .before .before .largest .ensures ∙ longest-is (st .reads) in
     let highest = c .before .before .before .largest-load .ensures ∙ makespan-is st in
     sought-known st (c .before .before .balance .ensures (p .0 .0) st most highest) (p .1 .0) (p .1 .1) (let z : length (c .before .before .balance .result .loads) ≡ 24 = search needs in omega (arith, st .reads .few))
 
@@ -52,7 +55,7 @@ largest-load-requires-2 : tie.Need-largest-load-requires-2
 largest-load-requires-2 c κs =
     let p = c .before .before .before .before .before .before .before .before .before .before .before .before .before .before .before .before .pre in
     let st = p .0 .1 in
-    let most = c .before .before .before .before .before .before .before .before .before .before .before .before .before .largest .ensures ∙ most-is st in
+    let most = c .before .before .before .before .before .before .before .before .before .before .before .before .before .largest .ensures ∙ longest-is (st .reads) in
     let highest = c .before .before .before .before .before .before .before .before .before .before .before .largest-load .ensures ∙ makespan-is st in
     let found = c .before .before .before .before .before .before .before .before .before .before .balance .ensures (p .0 .0) st most highest in
     let k = sought-placing st found (let y = c .before .before .before .before .before .before .before .before .left in let x = c .before .before .before .before .before .before .before .before .before .before .balance in let z : length (c .before .before .before .before .before .before .before .before .before .before .balance .result .loads) ≡ 24 = search needs in omega (arith, st .reads .few)) in
@@ -60,7 +63,7 @@ largest-load-requires-2 c κs =
 
 returns : tie.Need-returns
 returns c = λ I st.
-    let most = c .before .before .before .before .before .before .before .before .before .before .before .before .before .before .largest .ensures ∙ most-is st in
+    let most = c .before .before .before .before .before .before .before .before .before .before .before .before .before .before .largest .ensures ∙ longest-is (st .reads) in
     let highest = c .before .before .before .before .before .before .before .before .before .before .before .before .largest-load .ensures ∙ makespan-is st in
     let found = c .before .before .before .before .before .before .before .before .before .before .before .balance .ensures I st most highest in
     let k = sought-placing st found (let y = c .before .before .before .before .before .before .before .before .before .left in let x = c .before .before .before .before .before .before .before .before .before .before .before .balance in let z : length (c .before .before .before .before .before .before .before .before .before .before .before .balance .result .loads) ≡ 24 = search needs in omega (arith, st .reads .few)) in

@@ -5,7 +5,7 @@ use mathlib.Core.List.{List}
 use native.Mathlib.Omega.{arith}
 use lib.ListN.{take}
 use Rattle.rules.specs.Instance.{Instance}
-use Rattle.trials.specs.Reads.{Reads}
+use Rattle.arrays.specs.Reads.{Reads}
 use Rattle.trials.proofs.Reaching.{Toward, toward-start, toward-more, toward-end, toward-still}
 use borrow.Author.Needs.{needs}
 use Rattle.trials.proofs.group.closure_of.Statement.{statement}

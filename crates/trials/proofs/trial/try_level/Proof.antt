@@ -1,135 +1,117 @@
--- A trial: from its first state to where nothing acts, and what that says.
+-- A trial at the limits of its level, and what its end says.
 -- Assumes nothing.
-use Prim.Native.Nat.{ℕ, _+_, _≤_}
+use Prim.Native.Nat.{_+_, _≤_}
 use mathlib.Core.Path.{_≡_, sym, _∙_}
-use mathlib.Core.Bool.{Bool}
 use native.Mathlib.Omega.{arith}
-use lib.ListN.{length}
-use Rattle.rules.specs.Fold.{firstTo}
-use Rattle.rules.specs.Instance.{Instance, n}
+use lib.ListN.{length, take}
+use borrow.Author.Needs.{needs}
+use Rattle.rules.specs.Instance.{Instance}
 use Rattle.rules.specs.Load.{longest}
-use Rattle.theory.proofs.View.{First, first}
-use Rattle.trials.specs.Track.{Ended}
+use Rattle.rules.specs.Trial.{atLevel}
+use Rattle.theory.proofs.Agree.{first-le}
+use Rattle.trials.specs.Track.{Ends}
 use Rattle.trials.specs.Attempt.{Standing}
-use Rattle.trials.proofs.Take.{take-long}
-use Rattle.trials.proofs.Verdict.{begins}
-use Rattle.trials.proofs.Trying.{tries-pass, tries-dark, tries-stuck}
-use borrow.Author.Needs.{needs, length-unmapped}
-use Rattle.trials.proofs.Running.{fresh-flat}
+use Rattle.trials.proofs.Verdict.{starts, tries-pass, tries-fail}
 use Rattle.trials.proofs.trial.try_level.Statement.{statement}
 use Rattle.trials.proofs.trial.try_level.Tie as tie
-use Rattle.trials.proofs.trial.try_level.Reads as reads
-use Rattle.trials.proofs.trial.try_level.Lts as lts
-use Rattle.arrays.proofs.scan.some_at_most.Reads as some-at-most-reads
-use Rattle.arrays.proofs.setup.first_over.Reads as first-over-reads
-use Rattle.trials.proofs.group.all_machines.Reads as all-machines-reads
-use Rattle.trials.proofs.group.closure_of.Reads as closure-of-reads
-use Rattle.trials.proofs.trial.begin.Reads as begin-reads
-use Rattle.trials.proofs.trial.run.Reads as run-reads
-
--- ---- what is known from the start
-
-abbrev inst : tie.Start → Instance
-inst s = s .pre .0 .0
-
-known : (s : tie.Start) → Standing (inst s) (s .args .m) (s .args .n) (s .args .minutes .now) (s .args .masks .now) (s .args .places) (s .args .loads)
-known s = s .pre .0 .1
-
-few : (s : tie.Start) → s .args .m ≤ 24
-few s = known s .reads .few
-
--- ---- at the end
 
 abbrev start : tie.After-run → tie.Start
 start c = c .before .before .before .before .before
 
+abbrev ran : tie.After-first-overloaded → tie.After-run
+ran c = c .before .before .before .before .before
+
+few : (s : tie.Start) → s .args .m ≤ 24
+few s = s .pre .0 .1 .reads .few
+
 ended : (c : tie.After-run) (I : Instance) → Standing I (start c .args .m) (start c .args .n) (start c .args .minutes .now) (start c .args .masks .now) (start c .args .places) (start c .args .loads)
-    → start c .args .limit ≡ start c .args .a + longest I → Ended I (start c .args .a) (c .before .begin .result) (c .run .result)
-ended c I w e = c .run .ensures I (begins w (start c .args .a) (start c .args .limit) e (c .before .begin .ensures))
+    → start c .args .limit ≡ start c .args .a + longest I → Ends I (atLevel I (start c .args .a)) (take (start c .args .n) (start c .args .places)) (c .run .result)
+ended c I w e = c .run .ensures I _ (starts w _ _ e)
 
-places-long : (c : tie.After-run) → start c .args .n ≤ length (c .run .result .places)
-places-long c =
-    let d = ended c (inst (start c)) (known (start c)) (start c .pre .0 .2) in
-    omega (arith, take-long (n (inst (start c))) (c .run .result .places) (d .tracks .counted .shape .jobs), known (start c) .reads .jobs)
+loads-long : (c : tie.After-run) → length (c .run .result .loads) ≡ 24
+loads-long c = search needs
 
-loads24 : (c : tie.After-run) → length (c .run .result .loads) ≡ 24
-loads24 c = length-unmapped ℕ (c .run .result .loads) 24 (c .run .ok .1 .1 .1 .1 .1 .0 .1 .0 .1)
+places-long : (c : tie.After-run) → length (c .run .result .places) ≡ 200
+places-long c = search needs
 
-places200 : (c : tie.After-run) → length (c .run .result .places) ≡ 200
-places200 c = search needs
+-- a machine is overloaded
+some-over : (c : tie.Else1) → 1 ≤ c .before .first-overloaded .result
+some-over c = omega (arith, c .if1 .left)
 
--- an overloaded machine found is one of the bank
-found-in : (m : ℕ) (p : ℕ → Bool) (i : ℕ) → i ≡ firstTo m p → i ≤ m
-found-in m p i e = rw e (from (first m p))
-  where
-    from : {r : ℕ} → First m p r → r ≤ m
-    from (First.nowhere z) = omega arith
-    from (First.found j l y z) = l
+over-in : (c : tie.After-first-overloaded) → c .first-overloaded .result ≤ start (ran c) .args .m
+over-in c = first-le _ _ _ (c .first-overloaded .ensures)
 
-all-machines-requires : tie.Need-all-machines-requires
-all-machines-requires c κs = search needs
+slice-aggregate-run : tie.Need-slice-aggregate-run
+slice-aggregate-run c = search needs
 
-begin-requires : tie.Need-begin-requires
-begin-requires c κs = search needs
+slice-aggregate-run-2 : tie.Need-slice-aggregate-run-2
+slice-aggregate-run-2 c = search needs
 
 run-requires : tie.Need-run-requires
-run-requires c κs = (
-  (inst (c .before .before .before .before), begins (known (c .before .before .before .before)) (c .before .before .before .before .args .a) (c .before .before .before .before .args .limit) (c .before .before .before .before .pre .0 .2) (c .begin .ensures)),
-  (c .before .before .before .before .pre .1 .0, c .before .before .before .before .pre .1 .1, c .begin .ensures .acting, fresh-flat (c .begin .ensures), rw (c .begin .ensures .same) (c .before .before .before .before .pre .1 .2)),
-)
+run-requires c κs =
+    let s = c .before .before .before .before in
+    let w = s .pre .0 .1 in
+    ((s .pre .0 .0, _, starts w _ _ (s .pre .0 .2)), (s .pre .1 .0, s .pre .1 .1, few s, few s))
 
-slice-aggregate-first-over : tie.Need-slice-aggregate-first-over
-slice-aggregate-first-over c = sym (loads24 (c .before .before .before))
+slice-aggregate-first-overloaded : tie.Need-slice-aggregate-first-overloaded
+slice-aggregate-first-overloaded c = search needs
 
-first-over-requires : tie.Need-first-over-requires
-first-over-requires c κs = omega (arith, loads24 (c .before .before .before), few (c .before .before .before .before .before .before .before .before))
+slice-aggregate-first-overloaded-2 : tie.Need-slice-aggregate-first-overloaded-2
+slice-aggregate-first-overloaded-2 c = search needs
+
+first-overloaded-requires : tie.Need-first-overloaded-requires
+first-overloaded-requires c κs =
+    let r = c .before .before .before .before in
+    (omega (arith, loads-long r, few (start r)), few (start r))
 
 returns : tie.Need-returns
-returns c = λ I w e.
-    tries-pass w (c .before .before .before .before .before .before .before .before .before .before .args .a) (c .before .before .before .before .before .before .before .before .before .before .args .limit) e (c .before .before .before .before .before .before .begin .ensures) (ended (c .before .before .before .before .before) I w e) (sym (c .before .first-over .ensures) ∙ c .if1 .taken)
+returns c =
+    λ I w e. tries-pass w _ _ e (ended (ran (c .before)) I w e) (sym (c .before .first-overloaded .ensures) ∙ c .if1 .taken)
 
-slice-aggregate-some-at-most : tie.Need-slice-aggregate-some-at-most
-slice-aggregate-some-at-most c = sym (loads24 (c .before .before .before .before .before .before))
+slice-aggregate-group-of : tie.Need-slice-aggregate-group-of
+slice-aggregate-group-of c = search needs
 
-some-at-most-requires : tie.Need-some-at-most-requires
-some-at-most-requires c κs = omega (arith, loads24 (c .before .before .before .before .before .before), few (c .before .before .before .before .before .before .before .before .before .before .before))
+slice-aggregate-group-of-2 : tie.Need-slice-aggregate-group-of-2
+slice-aggregate-group-of-2 c = search needs
 
-slice-aggregate-closure-of : tie.Need-slice-aggregate-closure-of
-slice-aggregate-closure-of c = sym (places200 (c .before .before .before .before .before .before .before .before .before))
+slice-aggregate-group-of-3 : tie.Need-slice-aggregate-group-of-3
+slice-aggregate-group-of-3 c = search needs
 
-closure-of-requires : tie.Need-closure-of-requires
-closure-of-requires c κs = (
-  few (c .before .before .before .before .before .before .before .before .before .before .before .before .before .before),
-  places-long (c .before .before .before .before .before .before .before .before .before),
-  c .before .before .before .before .before .before .before .before .before .before .before .before .before .before .pre .1 .1,
-  omega (arith, c .before .before .before .before .if1 .left),
-  found-in (c .before .before .before .before .before .before .before .before .before .before .before .before .before .before .args .m) _ (c .before .before .before .before .before .first-over .result) (c .before .before .before .before .before .first-over .ensures),
-)
+group-of-requires : tie.Need-group-of-requires
+group-of-requires c κs =
+    let o = c .before .before .before in
+    let r = ran (o .before) in
+    let s = start r in
+    let most = s .pre .0 .1 .reads .most in (
+      few s,
+      omega (arith, loads-long r, few s),
+      omega (arith, places-long r, most),
+      s .pre .1 .1,
+      few s,
+      some-over o,
+      over-in (o .before),
+    )
 
 returns-2 : tie.Need-returns-2
-returns-2 c = λ I w e.
-    tries-stuck w (c .before .before .before .before .before .before .before .before .before .before .before .before .before .before .before .args .a) (c .before .before .before .before .before .before .before .before .before .before .before .before .before .before .before .args .limit) e (c .before .before .before .before .before .before .before .before .before .before .before .begin .ensures) (ended (c .before .before .before .before .before .before .before .before .before .before) I w e) (c .before .before .before .before .before .before .first-over .result) (sym (c .before .before .before .before .before .before .first-over .ensures))
-    (omega (arith, c .before .before .before .before .before .if1 .left)) (found-in (c .before .before .before .before .before .before .before .before .before .before .before .before .before .before .before .args .m) _ (c .before .before .before .before .before .before .first-over .result) (c .before .before .before .before .before .before .first-over .ensures))
-    (sym (c .before .before .before .some-at-most .ensures) ∙ c .before .before .if2 .taken) (c .closure-of .result) (c .closure-of .ensures I _ (w .reads))
-
-returns-3 : tie.Need-returns-3
-returns-3 c = λ I w e.
-    tries-dark w (c .before .before .before .before .before .before .before .before .before .before .before .before .before .args .a) (c .before .before .before .before .before .before .before .before .before .before .before .before .before .args .limit) e (c .before .before .before .before .before .before .before .before .before .begin .ensures) (ended (c .before .before .before .before .before .before .before .before) I w e) (c .before .before .before .before .first-over .result) (sym (c .before .before .before .before .first-over .ensures))
-    (omega (arith, c .before .before .before .if1 .left)) (sym (c .before .some-at-most .ensures) ∙ c .if2 .left) (c .before .before .before .before .before .before .before .before .before .before .all-machines .result) (c .before .before .before .before .before .before .before .before .before .before .all-machines .ensures)
+returns-2 c =
+    let o = c .before .before .before .before in
+    λ I w e.
+    tries-fail w _ _ e (ended (ran (o .before)) I w e) _ _ (o .before .first-overloaded .ensures) (some-over o) (over-in (o .before))
+    (c .group-of .ensures I _ (w .reads))
 
 pub try-level-spec : {M : Type 1} → statement M
 try-level-spec =
     tie.close
     (tie.spec
-    all-machines-requires
-    begin-requires
+    slice-aggregate-run
+    slice-aggregate-run-2
     run-requires
-    slice-aggregate-first-over
-    first-over-requires
+    slice-aggregate-first-overloaded
+    slice-aggregate-first-overloaded-2
+    first-overloaded-requires
     returns
-    slice-aggregate-some-at-most
-    some-at-most-requires
-    slice-aggregate-closure-of
-    closure-of-requires
-    returns-2
-    returns-3)
+    slice-aggregate-group-of
+    slice-aggregate-group-of-2
+    slice-aggregate-group-of-3
+    group-of-requires
+    returns-2)

@@ -1,0 +1,107 @@
+//! Sums, searches and sheets that the other modules share.
+
+use second::rng::Rng;
+use second::*;
+
+pub fn loads(sheet: &Sheet, places: &[u32]) -> Vec<u32> {
+    let of = |j| {
+        let pairs = sheet.batches().iter().zip(places);
+        pairs.filter(|(_, p)| **p == j).map(|(b, _)| b.length).sum()
+    };
+    (1..=sheet.instruments()).map(of).collect()
+}
+
+pub fn permitted(sheet: &Sheet, places: &[u32]) -> bool {
+    let mut pairs = sheet.batches().iter().zip(places);
+    places.len() == sheet.batches().len() && pairs.all(|(b, p)| b.list.contains(p))
+}
+
+/// The sheet with these places.
+pub fn placed(sheet: &Sheet, places: &[u32]) -> Sheet {
+    let mut draft = Draft::from(sheet);
+    for (line, &place) in draft.lines.iter_mut().zip(places) {
+        line.place = place;
+    }
+    draft.sheet()
+}
+
+/// The earliest finish of any permitted plan, by going through all of them.
+pub fn optimum(sheet: &Sheet) -> u32 {
+    fn least(sheet: &Sheet, places: &mut Vec<u32>) -> u32 {
+        let Some(batch) = sheet.batches().get(places.len()) else {
+            return *loads(sheet, places).iter().max().unwrap();
+        };
+        let mut found = u32::MAX;
+        for &j in &batch.list {
+            places.push(j);
+            found = found.min(least(sheet, places));
+            places.pop();
+        }
+        found
+    }
+    least(sheet, &mut Vec::new())
+}
+
+/// Levels worth trying: all of them if they are few.
+pub fn levels(rng: &mut Rng, sheet: &Sheet, few: u64) -> Vec<u64> {
+    let total = sheet.total() as u64;
+    if total <= few {
+        return (0..=total).collect();
+    }
+    let finish = sheet.finish() as u64;
+    let average = total / sheet.instruments() as u64;
+    let mut levels = vec![0, 1, finish - 1, finish, total];
+    levels.extend((0..few / 4).map(|_| rng.below(finish)));
+    levels.extend((0..few / 4).map(|_| (average * 2 / 3 + rng.below(average / 2 + 2)).min(total)));
+    levels
+}
+
+/// Many instruments, few ways out: the sheets on which heights climb.
+pub fn chain(rng: &mut Rng) -> Sheet {
+    let m = rng.within(3, 16);
+    let mut lines = Vec::new();
+    for j in 1..=m {
+        for _ in 0..rng.within(0, 6) {
+            let next = if j == m { 1 } else { j + 1 };
+            let list = match rng.below(4) {
+                0 => vec![j],
+                1 if rng.once_in(3) => gen::list(rng, m, 2),
+                _ => vec![next, j],
+            };
+            lines.push(Line {
+                length: rng.within(1, 12),
+                place: *rng.pick(&list),
+                list,
+            });
+        }
+    }
+    rng.shuffle(&mut lines);
+    let draft = Draft {
+        instruments: m,
+        lines,
+    };
+    draft.sheet()
+}
+
+/// The levels that planning tries, with their answers: both ends of the gap
+/// and what each trial found.
+pub fn halving(sheet: &Sheet) -> Vec<(u32, Trial)> {
+    let mut tried = Vec::new();
+    let (mut failed, mut passed) = (-1i64, sheet.finish() as i64);
+    while passed - failed > 1 {
+        let level = (failed + passed).div_euclid(2);
+        let answer = trial(sheet, level as u64).unwrap();
+        match answer.verdict {
+            Verdict::Pass(_) => passed = level,
+            Verdict::Fail(_) => failed = level,
+        }
+        tried.push((level as u32, answer));
+    }
+    tried
+}
+
+pub fn step_bounds(sheet: &Sheet, raises: u32, bumps: u32) {
+    let (m, n) = (sheet.instruments(), sheet.batches().len() as u32);
+    assert!(raises <= m * (2 * m + 1) + n * (2 * m + 2));
+    assert!(bumps <= (4 * m + 4) * sheet.listed() as u32);
+}

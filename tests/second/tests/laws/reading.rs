@@ -1,0 +1,207 @@
+//! Reading: every fault of a file is noted with where it shows, and the first
+//! of them must be the refusal.
+
+use std::ops::RangeInclusive;
+
+use second::rng::Rng;
+use second::*;
+
+/// The number whose text in six columns these bytes are.
+fn number(columns: &[u8]) -> Option<u32> {
+    let text = std::str::from_utf8(columns).ok()?;
+    let number: u32 = text.trim_start_matches(' ').parse().ok()?;
+    (format!("{number:>6}") == text).then_some(number)
+}
+
+/// Faults of a file, each with the place in the order of judging where it
+/// shows, its number and its line.
+#[derive(Default)]
+struct Faults(Vec<(usize, u32, u32)>);
+
+impl Faults {
+    fn note(&mut self, at: usize, number: u32, line: u32) {
+        self.0.push((at, number, line));
+    }
+
+    /// A field that must be of the form, and in range or else earns a number.
+    fn judge(&mut self, text: &Text, k: usize, range: RangeInclusive<u32>, number: u32) {
+        match text.field(k) {
+            None => self.note(k, 1, text.line),
+            Some(x) if !range.contains(&x) => self.note(k, number, text.line),
+            Some(_) => {}
+        }
+    }
+
+    fn first(&self) -> Option<(u32, u32)> {
+        let first = self.0.iter().min_by_key(|fault| fault.0)?;
+        Some((first.1, first.2))
+    }
+}
+
+/// A file's bytes from the start of a line on.
+struct Text<'a> {
+    rest: &'a [u8],
+    line: u32,
+}
+
+impl<'a> Text<'a> {
+    /// Field number `k` of the line, from 0.
+    fn field(&self, k: usize) -> Option<u32> {
+        number(self.rest.get(6 * k..6 * k + 6)?)
+    }
+
+    fn ends_after(&self, fields: usize) -> bool {
+        self.rest.get(6 * fields) == Some(&b'\n')
+    }
+
+    /// What follows the line, which has so many fields.
+    fn after(&self, fields: usize) -> Text<'a> {
+        Text {
+            rest: &self.rest[6 * fields + 1..],
+            line: self.line + 1,
+        }
+    }
+}
+
+fn head_faults(text: &Text) -> Faults {
+    let mut faults = Faults::default();
+    faults.judge(text, 0, 1..=24, 2);
+    faults.judge(text, 1, 0..=200, 2);
+    if !text.ends_after(2) {
+        faults.note(2, 1, 1);
+    }
+    faults
+}
+
+/// The faults of a batch's line, and its batch where there are none. Without a
+/// good count, which is a fault before all that follows it, there is no list.
+fn line_faults(text: &Text, m: u32) -> (Faults, Line) {
+    let mut faults = Faults::default();
+    faults.judge(text, 0, 1..=1440, 3);
+    faults.judge(text, 1, 0..=u32::MAX, 5);
+    faults.judge(text, 2, 1..=m, 4);
+    let [length, place, count] = [0, 1, 2].map(|k| text.field(k).unwrap_or(0));
+    let mut list = Vec::new();
+    if (1..=m).contains(&count) {
+        let last = 3 + count as usize;
+        for k in 3..last {
+            faults.judge(text, k, 1..=m, 4);
+            let instrument = text.field(k).unwrap_or(0);
+            if list.contains(&instrument) {
+                faults.note(k, 4, text.line);
+            }
+            list.extend(text.field(k));
+        }
+        if !text.ends_after(last) {
+            faults.note(last, 1, text.line);
+        }
+        if place != 0 && !list.contains(&place) {
+            faults.note(last + 1, 5, text.line);
+        }
+    }
+    (
+        faults,
+        Line {
+            length,
+            place,
+            list,
+        },
+    )
+}
+
+/// What reading a file must give.
+fn due(file: &[u8]) -> Result<Draft, (u32, u32)> {
+    let mut text = Text {
+        rest: file,
+        line: 1,
+    };
+    if let Some(fault) = head_faults(&text).first() {
+        return Err(fault);
+    }
+    let [m, n] = [0, 1].map(|k| text.field(k).unwrap());
+    let mut draft = Draft::new(m, &[]);
+    text = text.after(2);
+    for _ in 0..n {
+        let (faults, batch) = line_faults(&text, m);
+        if let Some(fault) = faults.first() {
+            return Err(fault);
+        }
+        text = text.after(3 + batch.list.len());
+        draft.lines.push(batch);
+    }
+    match text.rest {
+        [] => Ok(draft),
+        _ => Err((1, text.line)),
+    }
+}
+
+/// Read a file and check what comes of it.
+fn read_laws(file: &[u8]) -> Result<Sheet, Fault> {
+    let found = read(file);
+    match (&found, due(file)) {
+        (Ok(sheet), Ok(mut draft)) => {
+            // The file is the very text of the sheet, places not given apart.
+            assert_eq!(draft.render(), file);
+            for line in &mut draft.lines {
+                if line.place == 0 {
+                    line.place = line.list[0];
+                }
+            }
+            assert_eq!(Draft::from(sheet), draft);
+        }
+        (Err(fault), Err(due)) => assert_eq!((fault.refusal.number(), fault.line), due),
+        (found, due) => panic!("{found:?}, but due is {due:?}"),
+    }
+    found
+}
+
+#[test]
+fn files_read_back() {
+    let mut rng = Rng::new(11);
+    for shape in [gen::SMALL, gen::MEDIUM, gen::FULL, gen::LARGE] {
+        for _ in 0..150 {
+            let draft = gen::draft(&mut rng, shape);
+            let sheet = read_laws(&draft.render()).expect("a sound file");
+            assert_eq!(sheet, draft.sheet());
+            assert_eq!(read(&Draft::from(&sheet).render()), Ok(sheet));
+        }
+    }
+}
+
+#[test]
+fn damaged_files() {
+    let mut rng = Rng::new(12);
+    let mut sound = 0;
+    let mut by_number = [0; 10];
+    for round in 0..30_000 {
+        let shape = if round % 8 == 0 {
+            gen::MEDIUM
+        } else {
+            gen::SMALL
+        };
+        let mut file = gen::draft(&mut rng, shape).render();
+        for _ in 0..rng.within(1, 3) {
+            gen::damage(&mut rng, &mut file);
+        }
+        match read_laws(&file) {
+            Ok(_) => sound += 1,
+            Err(fault) => by_number[fault.refusal.number() as usize] += 1,
+        }
+    }
+    // The damage is varied enough to meet every outcome often.
+    assert!(sound > 100, "{sound}");
+    assert!(by_number[1..=5].iter().all(|&c| c > 100), "{by_number:?}");
+    assert_eq!(by_number[6..], [0; 4]);
+}
+
+#[test]
+fn noise() {
+    const ALPHABETS: [&[u8]; 3] = [b" \n0123456789", b"  1 2\n", &[0x20, 0x31, 0xff]];
+    let mut rng = Rng::new(13);
+    for _ in 0..30_000 {
+        let length = rng.below(60) as usize;
+        let alphabet = *rng.pick(&ALPHABETS);
+        let file: Vec<u8> = (0..length).map(|_| *rng.pick(alphabet)).collect();
+        let _ = read_laws(&file);
+    }
+}

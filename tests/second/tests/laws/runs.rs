@@ -1,0 +1,155 @@
+//! Runs: each call beside a book that is fed the calls and nothing else.
+
+use second::rng::Rng;
+use second::*;
+
+use crate::planning::plan_laws;
+use crate::settling::review_laws;
+use crate::watch::watch;
+
+/// May the list stand on a sheet of `m` instruments?
+fn good_list(list: &[u64], m: u32) -> bool {
+    let mut sorted = list.to_vec();
+    sorted.sort();
+    sorted.dedup();
+    let different = sorted.len() == list.len();
+    different && !list.is_empty() && list.iter().all(|j| (1..=m as u64).contains(j))
+}
+
+/// The refusal due to a call: the first of its checks that does not hold.
+fn refusal_due(book: &Draft, call: &Call) -> Option<Refusal> {
+    let there = |number: u64| 1 <= number && number <= book.lines.len() as u64;
+    let listed = |number: u64, j: u64| {
+        let line = &book.lines[number as usize - 1];
+        line.list.iter().any(|&k| k as u64 == j)
+    };
+    let m = book.instruments;
+    let total: u64 = book.lines.iter().map(|line| line.length as u64).sum();
+    let checks: &[(bool, Refusal)] = match call {
+        Call::Add { length, list } => &[
+            (book.lines.len() < 200, Refusal::Full),
+            (1 <= *length && *length <= 1440, Refusal::Length),
+            (good_list(list, m), Refusal::List),
+        ],
+        Call::Withdraw { number } => &[(there(*number), Refusal::NoBatch)],
+        Call::Requalify { number, list } => &[
+            (there(*number), Refusal::NoBatch),
+            (good_list(list, m), Refusal::List),
+        ],
+        Call::Move { number, instrument } => &[
+            (there(*number), Refusal::NoBatch),
+            (
+                !there(*number) || listed(*number, *instrument),
+                Refusal::Place,
+            ),
+        ],
+        Call::Trial { level } => &[(*level <= total, Refusal::Level)],
+        Call::Review | Call::Plan => &[],
+    };
+    let failed = checks.iter().find(|(holds, _)| !holds);
+    failed.map(|(_, refusal)| *refusal)
+}
+
+/// Enter a call that is not refused, and give the answer due.
+fn enter(book: &mut Draft, call: &Call) -> Answer {
+    let narrow = |list: &[u64]| list.iter().map(|&j| j as u32).collect::<Vec<u32>>();
+    match call {
+        Call::Add { length, list } => book.lines.push(Line {
+            length: *length as u32,
+            place: list[0] as u32,
+            list: narrow(list),
+        }),
+        Call::Withdraw { number } => {
+            book.lines.remove(*number as usize - 1);
+        }
+        Call::Requalify { number, list } => {
+            let line = &mut book.lines[*number as usize - 1];
+            line.list = narrow(list);
+            if !line.list.contains(&line.place) {
+                line.place = line.list[0];
+            }
+        }
+        Call::Move { number, instrument } => {
+            book.lines[*number as usize - 1].place = *instrument as u32;
+        }
+        // The rest is worked out on a sheet made from the book.
+        Call::Review => {
+            let sheet = book.sheet();
+            review_laws(&sheet);
+            return Answer::Review(review(&sheet));
+        }
+        Call::Trial { level } => {
+            return Answer::Trial(watch(&book.sheet(), *level, 7).answer);
+        }
+        Call::Plan => {
+            let (after, answer) = plan_laws(&book.sheet());
+            *book = Draft::from(&after);
+            return Answer::Plan(answer);
+        }
+    }
+    Answer::Done
+}
+
+/// Make the calls, each checked against the book; gives all answers.
+fn run_laws(draft: &Draft, calls: &[Call]) -> Vec<Answer> {
+    let mut book = Draft::from(&draft.sheet());
+    let mut sheet = read(&draft.render()).unwrap();
+    let mut answers = Vec::new();
+    for call in calls {
+        let answer = apply(&mut sheet, call);
+        let due = match refusal_due(&book, call) {
+            Some(refusal) => Answer::Refused(refusal),
+            None => enter(&mut book, call),
+        };
+        assert_eq!(answer, due, "{call:?}");
+        assert_eq!(Draft::from(&sheet), book);
+        answers.push(answer);
+    }
+    let mut at_once = draft.sheet();
+    assert_eq!(run(&mut at_once, calls), answers);
+    assert_eq!(at_once, sheet);
+    answers
+}
+
+#[test]
+fn runs() {
+    let mut rng = Rng::new(31);
+    let mut refusals = [0; 10];
+    for round in 0..4000 {
+        let (shape, count) = match round % 10 {
+            0 => (gen::MEDIUM, 25),
+            _ => (gen::SMALL, 40),
+        };
+        let draft = gen::draft(&mut rng, shape);
+        let n = draft.lines.len() as u32;
+        let calls = gen::calls(&mut rng, draft.instruments, n, shape.lengths.1, count);
+        for answer in run_laws(&draft, &calls) {
+            if let Answer::Refused(refusal) = answer {
+                refusals[refusal.number() as usize] += 1;
+            }
+        }
+    }
+    for number in [3, 4, 5, 6, 8] {
+        assert!(refusals[number] > 200, "{refusals:?}");
+    }
+}
+
+/// Runs that start full, so that adding is refused for want of room.
+#[test]
+fn runs_on_a_full_sheet() {
+    let mut rng = Rng::new(32);
+    let mut full = 0;
+    for _ in 0..12 {
+        let shape = gen::Shape {
+            instruments: (2, 6),
+            batches: (199, 200),
+            lengths: (1, 5),
+        };
+        let draft = gen::draft(&mut rng, shape);
+        let calls = gen::calls(&mut rng, draft.instruments, 200, 5, 20);
+        let answers = run_laws(&draft, &calls);
+        let refused = |answer: &&Answer| **answer == Answer::Refused(Refusal::Full);
+        full += answers.iter().filter(refused).count();
+    }
+    assert!(full > 10, "{full}");
+}
