@@ -74,8 +74,8 @@ typedef struct bankplan_answer {
  * first listed instrument), how many instruments are qualified, and those. Nothing follows the last line.
  *
  * A listing: line 1 has the finish, the floor that no plan can beat, the level, raises and bumps of the trial kept, and the settling
- * moves. Line 2 has the size of the group that shows the floor and its instruments, or 0 where no trial failed. Then each batch has a
- * line: its number, its place and its length.
+ * moves. Line 2 has the size and the instruments of the group of the highest level that failed, or 0 where none failed; where the floor is
+ * above the longest batch, that group shows it. Then each batch has a line: its number, its place and its length.
  *
  * The first fault in the sheet decides which of 1 to 5 is answered; 9 comes only for a sheet without a fault.
  */

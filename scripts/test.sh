@@ -13,7 +13,7 @@ missing() {
 need() {
     command -v "$1" >/dev/null 2>&1 && return 0
     if [ "$(id -u)" = 0 ] && command -v apt-get >/dev/null 2>&1; then
-        echo "installing $2"
+        echo "the command $1 is missing: installing Debian's package $2"
         apt-get update -qq && apt-get install -y -qq "$2" >/dev/null || true
     fi
     command -v "$1" >/dev/null 2>&1 || missing "the command $1 (Debian's package $2)"
@@ -27,8 +27,9 @@ need gcc gcc
 echo "== layout"
 rt fmt --check
 
-echo "== documents"
+echo "== documents, and edits outside this command"
 bash scripts/demands.sh
+bash scripts/alive.sh
 
 echo "== proofs, must-fail edits and programs"
 log=$(mktemp)
@@ -37,16 +38,15 @@ rt ci 2>&1 | tee "$log"
 verdict=$(tail -n 1 "$log")
 [[ $verdict =~ ^[1-9][0-9]*\ passed,\ 0\ failed$ ]] || missing "rt ci's verdict; its last line was: $verdict"
 
-echo "== the static library, and a host in C"
-rt staticlib listing
-# one rt at a time; beside it, what of the tests needs no library
-(cd tests && cargo test --offline --quiet --no-run -p second -p against) &
+echo "== the static library; beside it the tests in Rust that need none"
+(cd tests && cargo test --offline --quiet -p second -p against) &
 beside=$!
+rt staticlib listing
 rt staticlib journal
 wait "$beside"
-bash scripts/host.sh
 
-echo "== tests in Rust"
-(cd tests && cargo test --offline --quiet)
+echo "== a host in C, and the other tests in Rust"
+bash scripts/host.sh
+(cd tests && cargo test --offline --quiet -p host)
 
 echo "$verdict"

@@ -1,5 +1,4 @@
 -- Entries of a list by number, from 1, and by index, from 0.
--- Assumes nothing.
 use Prim.Native.Nat.{ℕ, zero, suc, _-_, _≤_, _<_}
 use mathlib.Core.Path.{_≡_, refl}
 use mathlib.Core.List.{List}

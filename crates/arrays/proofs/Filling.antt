@@ -1,5 +1,4 @@
 -- Sets entered one after the other.
--- Assumes nothing.
 use Prim.Native.Nat.{ℕ, suc, _+_, _-_, _*_, _<_}
 use mathlib.Core.Path.{_∙_}
 use mathlib.Core.List.{List}

@@ -1,5 +1,4 @@
 -- Loads kept beside an assignment, where one job leaves its machine or joins one.
--- Assumes nothing.
 use Prim.Native.Nat.{ℕ, _+_, _-_, _≤_, _<_}
 use mathlib.Core.Path.{_≡_, sym, _∙_}
 use mathlib.Core.List.{List}

@@ -5,5 +5,6 @@ pub mod Kept
 pub mod Loads
 pub mod Masks
 pub mod Search
+pub mod Take
 pub mod Turns
 pub mod Words

@@ -1,5 +1,4 @@
 -- Laws of the sets of machines: what the operations on words make of them.
--- Assumes nothing.
 use Prim.Native.Nat.{ℕ, suc, _-_, _*_, _%_, _^_, _≤_, _<_}
 use mathlib.Core.Path.{_≡_, sym, ap, ap₂, _∙_}
 use mathlib.Core.Bool.{Bool, false}

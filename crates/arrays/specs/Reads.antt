@@ -1,5 +1,4 @@
 -- The instance that arrays say: minutes of each job, and the machines that it may run on, as a set. And loads kept beside an assignment.
--- Assumes nothing.
 use Prim.Native.Nat.{ℕ, _≤_, _<_, _^_}
 use mathlib.Core.Path.{_≡_}
 use mathlib.Core.List.{List}

@@ -11,6 +11,7 @@
 ghost use mathlib.Core.Path.{_≡_};
 ghost use lib.ListN.{length};
 use journal::print::print;
+use libc::STDERR_FILENO;
 use libc::STDOUT_FILENO;
 use listing::text::put_refusal;
 
@@ -23,12 +24,18 @@ fn buffer() -> [u8; MOST]
     [0; MOST]
 }
 
-// Opens the file that argument i names, and answers a descriptor, or says why it cannot and answers a negative number.
+// Opens the file that argument i names, and answers a descriptor. Where there is no such argument it says the usage, where the file cannot be
+// opened why, and answers a negative number.
 fn open(i: usize) -> i32 {
     let mut path = io::buffer();
     let length = os::arg(i, &mut path);
-    if os::errno() != 0 {
-        os::fail(b"bankrun SHEET JOURNAL");
+    let error = os::errno();
+    if error == libc::EINVAL {
+        io::write_all(STDERR_FILENO, b"usage: bankrun SHEET JOURNAL\n");
+        return -1;
+    }
+    if error != 0 {
+        os::fail(b"bankrun");
         return -1;
     }
     let file = os::open_read(&path[..length]);

@@ -1,5 +1,4 @@
 -- A call's parts: what each leaves of the bytes, and how an entry goes on from what was read.
--- Assumes nothing.
 use Prim.Native.Nat.{ℕ, zero, suc, _+_, _-_, _≤_}
 use mathlib.Core.Path.{_≡_, refl, sym, ap, _∙_}
 use mathlib.Core.Bool.{Bool, true, false}

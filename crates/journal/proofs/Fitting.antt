@@ -1,5 +1,4 @@
 -- Every answer on a sound sheet fits its columns, and its line is the rules'.
--- Assumes nothing.
 use Prim.Native.Nat.{ℕ, _≤_, _<_}
 use mathlib.Core.Path.{_≡_, refl}
 use mathlib.Core.Bool.{Bool, true, false}
@@ -33,8 +32,7 @@ use Rattle.theory.proofs.Field.{columns-length}
 use Rattle.sheet.specs.declared.Sheet.{Sheet}
 use Rattle.sheet.specs.Represent.{Sound, bookOf}
 use Rattle.sheet.proofs.Marking.{length-listTo}
-use Rattle.sheet.proofs.Shown.{view-instruments, view-batches, view-valid, view-permitted}
-use Rattle.planner.proofs.Stands.{view-small}
+use Rattle.sheet.proofs.SoundViews.{view-instruments, view-batches, view-valid, view-permitted, view-small}
 use Rattle.listing.proofs.Fields.{fields-length, line-length}
 use Rattle.listing.proofs.Figures.{plan-fits, group-few}
 use Rattle.journal.specs.Answering.{isPlan, lineOf, lineLength, Small, Fitting}

@@ -1,5 +1,4 @@
 -- A journal line by line: the lines from a place on are the line there, and then those from its end on.
--- Assumes nothing.
 use Prim.Native.Nat.{ℕ, zero, suc, _-_, _≤_, _<_}
 use mathlib.Core.Path.{_≡_, refl, ap, _∙_}
 use mathlib.Core.Bool.{true, false}

@@ -1,5 +1,4 @@
 -- Reading a list: the numbers so far, the first 25 of them kept, and what is left goes on from them as the rules do.
--- Assumes nothing.
 use Prim.Native.Nat.{ℕ, suc, _+_, _-_, _≤_, _<_}
 use mathlib.Core.Path.{_≡_, refl, sym, ap, _∙_}
 use mathlib.Core.Bool.{false}

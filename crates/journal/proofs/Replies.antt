@@ -1,5 +1,4 @@
 -- What each call's function returns, as the numbers of its answer on the sheet's book.
--- Assumes nothing.
 use Prim.Native.Nat.{ℕ, _≤_}
 use mathlib.Core.Path.{_≡_, refl, sym, ap, _∙_}
 use mathlib.Core.Bool.{Bool, true, false}
@@ -25,12 +24,13 @@ use Rattle.sheet.specs.Represent.{Sound, sheetOf, bookOf}
 use Rattle.sheet.specs.Answers.{numberOf, editOf}
 use Rattle.sheet.proofs.Marking.{length-listTo}
 use Rattle.sheet.proofs.Padded.{length-padded}
-use Rattle.sheet.proofs.Shown.{view-instruments, view-batches, view-valid, view-permitted}
+use Rattle.sheet.proofs.SoundViews.{view-instruments, view-batches, view-valid, view-permitted}
 use Rattle.planner.specs.declared.Tried.{Tried}
 use Rattle.planner.specs.declared.Planned.{Planned}
 use Rattle.planner.specs.declared.Reviewed.{Reviewed}
-use Rattle.planner.specs.Calls.{reviewOf, trialOf, planOf, trialAnswer, triedAs}
-use Rattle.planner.specs.Runs.{Reply, edited, Link, editing, reviewing, trying, planning, replyNumbers}
+use Rattle.sheet.proofs.Answered.{edit-answered}
+use Rattle.planner.specs.Calls.{Reply, replyNumbers, reviewOf, trialOf, planOf, trialAnswer, triedAs, ReviewAnswered, TrialAnswered, PlanAnswered}
+use Rattle.planner.specs.Runs.{Link, editing, reviewing, trying, planning}
 use Rattle.planner.proofs.Runs.{link-answer, link-next}
 use Rattle.listing.proofs.Figures.{group-few, plan-fits}
 use Rattle.journal.specs.Answering.{madeWith, madeOf, isPlan, reviewNumbers, trialNumbers, plannedNumbers}
@@ -90,25 +90,25 @@ module _ (s : Sheet) (v : Sound s) where
   linked {c} {r} {t} p l e =
       let k = bookOf s in
       ap (λ (x : Sheet). madeWith x (replyNumbers k r) p) (link-next k (sym (v .arrays)) refl l)
-      ∙ ap (λ (d : List ℕ). madeWith (sheetOf (next k c)) d p) (link-answer k (v .book) (sym (v .arrays)) refl l)
+      ∙ ap (λ (d : List ℕ). madeWith (sheetOf (next k c)) d p) (link-answer k refl l)
       ∙ ap (λ (q : Bool). madeWith (sheetOf (next k c)) (answerNumbers (answer k c)) q) (sym e)
 
   pub made-edit : (e : E.Edit) (r : Edited) → r ≡ editOf s e
       → madeWith (r .sheet) (numberOf (r .refusal) ∷ []) false ≡ madeOf (bookOf s) (R.editing e)
-  made-edit e r q = linked false (editing s e r q) (edit-plain (bookOf s) e)
+  made-edit e r q = linked false (editing s e r (edit-answered q)) (edit-plain (bookOf s) e)
 
-  pub made-review : (r : Reviewed) (m : ℕ) → r ≡ reviewOf (bookOf s) → m ≡ instance (bookOf s) .m
+  pub made-review : (r : Reviewed) (m : ℕ) → ReviewAnswered (bookOf s) r → m ≡ instance (bookOf s) .m
       → madeWith s (reviewNumbers m r) false ≡ madeOf (bookOf s) R.reviewing
   made-review r m q e =
       ap (λ (i : ℕ). madeWith s (reviewNumbers i r) false) e ∙ linked false (reviewing s r q) (review-plain (bookOf s))
 
-  pub made-trial : (a : ℕ) (r : Tried) (c : ℕ) → r ≡ trialOf (bookOf s) a → c ≡ n (instance (bookOf s))
+  pub made-trial : (a : ℕ) (r : Tried) (c : ℕ) → TrialAnswered (bookOf s) a r → c ≡ n (instance (bookOf s))
       → madeWith s (trialNumbers c r) false ≡ madeOf (bookOf s) (R.trying a)
   made-trial a r c q e =
       ap (λ (i : ℕ). madeWith s (trialNumbers i r) false) (e ∙ jobs-count (bookOf s))
       ∙ linked false (trying s a r q) (trial-plain (bookOf s) a)
 
-  pub made-plan : (r : Planned) → r ≡ planOf (bookOf s) → madeWith (r .sheet) (plannedNumbers r) true ≡ madeOf (bookOf s) R.planning
+  pub made-plan : (r : Planned) → PlanAnswered (bookOf s) r → madeWith (r .sheet) (plannedNumbers r) true ≡ madeOf (bookOf s) R.planning
   made-plan r q = linked true (planning s r q) (plan-plain (bookOf s))
 
   -- ---- the arrays are long enough

@@ -1,5 +1,4 @@
 -- The call of an entry does what the call of its line does: a list of more than 24 numbers is refused, and so are its first 25.
--- Assumes nothing.
 use Prim.Native.Nat.{ℕ, _≤_, _<_}
 use mathlib.Core.Path.{_≡_, refl, ap, _∙_}
 use mathlib.Core.Bool.{Bool, true, false}

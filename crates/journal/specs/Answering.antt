@@ -1,5 +1,4 @@
 -- The call of a line, and its answer as the code has it: the sheet after the call, and the answer's numbers in 204 entries.
--- Assumes nothing.
 use Prim.Native.Nat.{ℕ, _+_, _*_, _<_, _≤_, _^_}
 use mathlib.Core.Path.{_≡_}
 use mathlib.Core.Bool.{Bool, true, false}

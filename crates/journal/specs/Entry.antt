@@ -1,5 +1,4 @@
 -- A call's line as the reader gives it.
--- Assumes nothing.
 use Prim.Native.Nat.{ℕ, _-_}
 use mathlib.Core.Bool.{true, false}
 use mathlib.Core.List.{List, []}

@@ -1,14 +1,10 @@
 // The host's call: a sheet's bytes and a journal's in, the answers of its calls in a lent buffer.
 ghost use Prim.Native.Nat.{_≤_};
 ghost use mathlib.Core.Path.{_≡_};
-ghost use mathlib.Core.List.{List, _++_};
+ghost use mathlib.Core.List.{_++_};
 ghost use lib.Dec.{leb};
 ghost use lib.ListN.{length, drop};
-ghost use Rattle.rules.specs.Sheet.{Book};
-ghost use Rattle.rules.specs.Read.{read as readAs, accepted};
-ghost use Rattle.rules.specs.Run.{Call};
-ghost use Rattle.rules.specs.Journal.{calls, journal as journalOf, ranOn, runHost};
-ghost use Rattle.theory.proofs.Runs.{Throughout};
+ghost use Rattle.rules.specs.Journal.{journal as journalOf, ranOn, runHost};
 ghost use Rattle.sheet.specs.Represent.{Sound, bookOf};
 ghost use Rattle.listing.specs.Host.{hostedOf};
 ghost use Rattle.journal.specs.Running.{Spells, textOf};
@@ -101,13 +97,12 @@ fn run_on(sheet: Sheet, journal: &[u8], out: &mut [u8]) -> Hosted
 
 // Reads a sheet of any bytes, makes the calls of a journal of any bytes on it, one after the other, and writes their answers at the
 // front of `answers`. A refusal of the sheet comes before one of the journal, and both before 9; the journal's is 19, with its line. No refusal writes anything; bytes
-// past the answers stay. All that is claimed of reviews, trials and plannings holds on the book before each call, and after the last. To C each slice is a pointer and a length:
+// past the answers stay. To C each slice is a pointer and a length:
 //   Hosted bankplan_run(const uint8_t *sheet, size_t sheet_length, const uint8_t *journal, size_t journal_length,
 //                    uint8_t *answers, size_t answers_length);
 #[no_mangle]
 pub extern "C" fn bankplan_run(sheet: &[u8], journal: &[u8], answers: &mut [u8]) -> Hosted
     ensures { λ r. ⌜ hostedOf r (now (answers .exit)) ≡ runHost (now (sheet .entry)) (now (journal .entry)) (now (answers .entry)) ⌝ }
-    ensures { λ _. ⌜ ((k : Book) (cs : List Call) → readAs (now (sheet .entry)) ≡ accepted k → journalOf (now (journal .entry)) ≡ calls cs → Throughout k cs) ⌝ }
 {
     let r = read(sheet);
     let e = r.refusal;

@@ -1,5 +1,4 @@
 -- A plan's numbers fit their columns, and its group is of at most 24.
--- Assumes nothing.
 use Prim.Native.Nat.{ℕ, _≤_, _<_, _^_}
 use mathlib.Core.Bool.{Bool, true, false}
 use mathlib.Core.List.{List, []}
@@ -23,8 +22,7 @@ use Rattle.theory.proofs.Planning.{bound-le, plan-no-later, plan-moves, plan-li
 use Rattle.theory.proofs.Small.{Small, longest-small, makespan-small, lifts-small, pushes-small, squares-small}
 use Rattle.sheet.specs.declared.Sheet.{Sheet}
 use Rattle.sheet.specs.Represent.{Sound, bookOf}
-use Rattle.sheet.proofs.Shown.{view-valid, view-permitted}
-use Rattle.planner.proofs.Stands.{view-small}
+use Rattle.sheet.proofs.SoundViews.{view-valid, view-permitted, view-small}
 
 -- ---- groups
 

@@ -1,5 +1,4 @@
 -- The planner's answer and the sheet's arrays, as the listing shows them.
--- Assumes nothing.
 use Prim.Native.Nat.{ℕ, zero, suc, _+_, _-_, _*_, _≤_}
 use mathlib.Core.Path.{_≡_, refl, ap, _∙_}
 use mathlib.Core.List.{List, map}
@@ -19,7 +18,7 @@ use Rattle.theory.proofs.Planning.{plan-permitted}
 use Rattle.sheet.specs.declared.Sheet.{Sheet}
 use Rattle.sheet.specs.Represent.{padded, sheetOf, bookOf, Sound}
 use Rattle.sheet.proofs.Padded.{getD-zeros}
-use Rattle.sheet.proofs.Shown.{minutes-at, view-batches, view-valid, view-permitted, view-placed, view-placed-book}
+use Rattle.sheet.proofs.SoundViews.{minutes-at, view-batches, view-valid, view-permitted, view-placed, view-placed-book}
 use Rattle.planner.specs.declared.Planned.{Planned}
 use Rattle.planner.specs.Calls.{planOf}
 use Rattle.listing.specs.Text.{figures, listingText}

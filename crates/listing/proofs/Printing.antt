@@ -1,5 +1,4 @@
 -- What the program prints, from what the host gets with a buffer that is long enough for every listing.
--- Assumes nothing.
 use Prim.Native.Nat.{ℕ, _+_, _≤_, _<_}
 use mathlib.Core.Path.{_≡_, refl, sym, ap, _∙_}
 use mathlib.Core.Bool.{true}
@@ -44,7 +43,7 @@ number-range levelAbove = (omega arith, omega arith)
 number-range bufferShort = (omega arith, omega arith)
 
 -- the listing is in the buffer
-pub record Listed (s buffer : List ℕ) (h : Hosted) (after : List ℕ) : Type 0 where
+pub record ListingIn (s buffer : List ℕ) (h : Hosted) (after : List ℕ) : Type 0 where
   pub count : h .length ≡ length (program s)
   pub text : after ≡ atFront (program s) buffer
 
@@ -75,7 +74,7 @@ module _ (s buffer after : List ℕ) (h : Hosted) (e : hostedOf h after ≡ host
   unfolding program
   row-of g j q = rw q
 
-  listed-case : (o : Reading) → read s ≡ o → h .refusal ≡ 0 → Listed s buffer h after
+  listed-case : (o : Reading) → read s ≡ o → h .refusal ≡ 0 → ListingIn s buffer h after
   listed-case (accepted k) q z =
       let t = told k q in
       record { count = ap (λ (x : L.Hosted). x .length) t; text = ap (λ (x : L.Hosted). x .buffer) t }
@@ -95,7 +94,7 @@ module _ (s buffer after : List ℕ) (h : Hosted) (e : hostedOf h after ≡ host
         place = omega (arith, refused-line s g j q);
       }
 
-  pub is-listed : h .refusal ≡ 0 → Listed s buffer h after
+  pub is-listed : h .refusal ≡ 0 → ListingIn s buffer h after
   is-listed z = listed-case (read s) refl z
 
   pub is-unlisted : (h .refusal ≡ 0 → ⊥) → Unlisted s buffer h after

@@ -1,5 +1,4 @@
 -- The host's answer as the rules' record.
--- Assumes nothing.
 use Prim.Native.Nat.{ℕ}
 use mathlib.Core.List.{List}
 use Rattle.rules.specs.Sheet.{Book}

@@ -1,5 +1,4 @@
 -- The listing's texts over plain numbers and lists, as the code has them.
--- Assumes nothing.
 use Prim.Native.Nat.{ℕ, zero, suc, _+_, _%_}
 use mathlib.Core.List.{List, [], _∷_, _++_}
 use lib.ListN.{length, take, drop}

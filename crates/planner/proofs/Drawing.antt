@@ -1,5 +1,4 @@
 -- Planning over arrays: what it starts from, and its figures as the rules give them.
--- Assumes nothing.
 use Prim.Native.Nat.{ℕ, _≤_, _<_}
 use mathlib.Core.Path.{_≡_, refl, sym, ap, _∙_}
 use mathlib.Core.List.{List}
@@ -15,14 +14,15 @@ use Rattle.rules.specs.Balance as B
 use Rattle.rules.specs.Plan as P
 use Rattle.rules.specs.Sheet.{Book}
 use Rattle.rules.specs.Run.{withPlaces}
+use Rattle.theory.proofs.Valid.{Permitted}
 use Rattle.theory.proofs.Planning.{plan-permitted}
 use Rattle.sheet.specs.declared.Sheet.{Sheet}
 use Rattle.sheet.specs.Represent.{Sound, padded, sheetOf, bookOf}
-use Rattle.sheet.proofs.Shown.{view-valid, view-permitted, view-placed}
+use Rattle.sheet.proofs.SoundViews.{view-valid, view-permitted, view-placed}
 use Rattle.arrays.specs.Sets.{has}
 use Rattle.arrays.specs.Reads.{Reads}
 use Rattle.trials.specs.Attempt.{Standing}
-use Rattle.trials.specs.Grouping.{Holds}
+use Rattle.trials.specs.Grouping.{HoldsList}
 use Rattle.planner.specs.declared.balance.Search.{Search}
 use Rattle.planner.specs.declared.plan.Drawn.{Drawn}
 use Rattle.planner.specs.Settling.{Known, Placing, SettledTo}
@@ -42,6 +42,9 @@ module _ {I : Instance} {m c : ℕ} {lengths sets places loads : List ℕ} (st :
   pub makespan-is : maxTo m (λ i. at loads i) ≡ makespan I (take c places)
   makespan-is = greatest-is places (st .reads) (λ i l u. st .kept i l (omega (arith, st .reads .machines)))
 
+  pub drawn-permitted : {d : Drawn} → Draws I c (take c places) d → Permitted I (take (In.n I) (d .places))
+  drawn-permitted e = rw (st .reads .jobs, e .places) (plan-permitted I (take c places) (st .reads .valid) (st .permitted))
+
   module _ {s : Search} (found : Sought I m c (take c places) s) where
     pub sought-placing : m ≤ length (s .loads) → Placing I m c (s .places) (s .loads)
     sought-placing h = record {
@@ -59,7 +62,7 @@ module _ {I : Instance} {m c : ℕ} {lengths sets places loads : List ℕ} (st :
     -- the figures, from what the parts answer
     pub drawn : {places′ loads′ group : List ℕ} {moves bound makespan size : ℕ}
         → SettledTo I m c (s .places) places′ loads′ moves
-        → Holds (thoseTo m (λ i. has (s .group) i)) group size
+        → HoldsList (thoseTo m (λ i. has (s .group) i)) group size
         → bound ≡ lowerBound I (thoseTo m (λ i. has (s .group) i))
         → makespan ≡ maxTo m (λ i. at loads′ i)
         → Draws I c (take c places) (record {

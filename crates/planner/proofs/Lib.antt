@@ -1,3 +1,4 @@
+pub mod Answered
 pub mod Drawing
 pub mod Placing
 pub mod Relocate
@@ -5,5 +6,5 @@ pub mod Reviewing
 pub mod Runs
 pub mod Seeking
 pub mod Settles
-pub mod Shows
-pub mod Stands
+pub mod TrialAnswers
+pub mod SheetArrays

@@ -1,5 +1,4 @@
 -- What the arrays say of who improves and where to is what the rules say.
--- Assumes nothing.
 use Prim.Native.Nat.{ℕ, suc, _+_, _-_, _≤_, _<_}
 use mathlib.Core.Path.{_≡_, sym, ap, _∙_}
 use mathlib.Core.List.{List}
@@ -14,7 +13,7 @@ use Rattle.theory.proofs.Agree.{any-ext, least-ext}
 use Rattle.theory.proofs.Valid.{on-machine}
 use Rattle.arrays.specs.Reads.{Reads}
 use Rattle.planner.specs.Settling.{other, Placing, Known}
-use Rattle.trials.proofs.Take.{at-take, take-long}
+use Rattle.arrays.proofs.Take.{at-take, take-long}
 use Rattle.theory.proofs.Small.{load-small}
 use Rattle.arrays.proofs.Entries.{at-index}
 

@@ -1,5 +1,4 @@
 -- One move over arrays: where the job goes, that the loads have room for it, and what places and loads are after it.
--- Assumes nothing.
 use Prim.Native.Nat.{ℕ, zero, suc, _+_, _-_, _≤_, _<_}
 use mathlib.Core.Path.{_≡_, sym, ap, subst, _∙_}
 use mathlib.Core.Logic.{_≢_}
@@ -17,7 +16,7 @@ use Rattle.theory.proofs.Review.{Improves}
 use Rattle.theory.proofs.Settling.{mover-some, target-better, moved-permitted}
 use Rattle.arrays.specs.Reads.{Reads, Kept}
 use Rattle.planner.specs.Settling.{other, Placing, Moved}
-use Rattle.trials.proofs.Take.{at-take, take-put}
+use Rattle.arrays.proofs.Take.{at-take, take-put}
 use Rattle.arrays.proofs.Entries.{at-index, put-put}
 use Rattle.arrays.proofs.Kept.{kept-on, kept-off}
 use Rattle.planner.proofs.Placing.{place-in, target-is}

@@ -1,5 +1,4 @@
 -- Review over arrays: loads that were added up are the rules', and so are their list and the greatest of them.
--- Assumes nothing.
 use Prim.Native.Nat.{ℕ, zero, suc, _≤_, _<_}
 use mathlib.Core.Path.{_≡_, refl, sym, ap, _∙_}
 use mathlib.Core.List.{List}
@@ -14,7 +13,7 @@ use Rattle.rules.specs.Load.{load, makespan, improves, review}
 use Rattle.theory.proofs.Fold.{sumTo-ext}
 use Rattle.arrays.specs.Reads.{Reads}
 use Rattle.planner.specs.Settling.{Placing, ReviewIs}
-use Rattle.trials.proofs.Take.{at-take}
+use Rattle.arrays.proofs.Take.{at-take}
 
 -- a list's front part, by its entries
 pub take-list : (k : ℕ) (l : List ℕ) (f : ℕ → ℕ) → k ≤ length l → ((i : ℕ) → 0 < i → i ≤ k → at l i ≡ f i) → take k l ≡ listTo k f

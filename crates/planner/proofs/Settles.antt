@@ -1,5 +1,4 @@
 -- Settling over arrays: what holds after some moves, what one more makes of it, and what stands at the end.
--- Assumes nothing.
 use Prim.Native.Nat.{ℕ, zero, suc, _+_, _*_, _/_, _≤_}
 use mathlib.Core.Path.{_≡_, refl, sym, ap, _∙_}
 use mathlib.Core.List.{List}

@@ -1,18 +1,22 @@
 -- What review, a trial and planning answer, by the rules: each case with document 01's numbers and values.
--- Assumes nothing.
 use Prim.Native.Nat.{ℕ}
+use mathlib.Core.Path.{_≡_}
 use mathlib.Core.Bool.{true, false}
-use lib.ListN.{length, replicate}
-use Rattle.rules.specs.Refusal as R
-use Rattle.rules.specs.Sheet.{Book}
+use mathlib.Core.List.{List, [], _∷_}
+use lib.ListN.{length, take, replicate}
+use lib.Dec.{eqb}
+use Rattle.rules.specs.Fold.{pick}
+use Rattle.rules.specs.Sheet.{Book, size}
 use Rattle.rules.specs.Load as L
 use Rattle.rules.specs.Group as G
 use Rattle.rules.specs.Plan as P
-use Rattle.rules.specs.Run.{Answer, refused, done, reviewed, tried, planned, answer, trying, planBook, withPlaces}
+use Rattle.rules.specs.Run.{Answer, answer, answerNumbers, planBook, withPlaces}
+use Rattle.rules.specs.Run as R
 use Rattle.sheet.specs.declared.Refusal.{Refusal}
 use Rattle.sheet.specs.declared.Refusal.the-variants.{Nothing}
 use Rattle.sheet.specs.Represent.{padded, sheetOf}
-use Rattle.sheet.specs.Answers.{coded}
+use Rattle.sheet.specs.declared.Edited.{Edited}
+use Rattle.sheet.specs.Answers.{numberOf, coded}
 use Rattle.planner.specs.declared.Tried.{Tried}
 use Rattle.planner.specs.declared.Planned.{Planned}
 use Rattle.planner.specs.declared.Reviewed.{Reviewed}
@@ -42,15 +46,15 @@ triedAs (G.failed g r b) = record {
 }
 
 abbrev pub trialAnswer : Answer → Tried
-trialAnswer (refused e) = refusedTrial (coded e)
-trialAnswer done = refusedTrial Nothing
-trialAnswer (reviewed v) = refusedTrial Nothing
-trialAnswer (tried t) = triedAs t
-trialAnswer (planned p) = refusedTrial Nothing
+trialAnswer (R.refused e) = refusedTrial (coded e)
+trialAnswer R.done = refusedTrial Nothing
+trialAnswer (R.reviewed v) = refusedTrial Nothing
+trialAnswer (R.tried t) = triedAs t
+trialAnswer (R.planned p) = refusedTrial Nothing
 
 -- the answer to a trial at level a on the book
 unfoldable pub trialOf : Book → ℕ → Tried
-trialOf k a = trialAnswer (answer k (trying a))
+trialOf k a = trialAnswer (answer k (R.trying a))
 
 abbrev pub reviewedAs : L.Review → Reviewed
 reviewedAs v = record { loads = padded 24 (v .loads); makespan = v .makespan; improving = v .improving }
@@ -76,3 +80,37 @@ plannedAs k p = record {
 -- the answer to planning on the book
 unfoldable pub planOf : Book → Planned
 planOf k = plannedAs k (planBook k)
+
+-- what a call's function returns
+pub data Reply : Type 0 where
+  edited : Edited → Reply
+  reviewed : Reviewed → Reply
+  tried : Tried → Reply
+  planned : Planned → Reply
+
+-- ---- a reply as document 01's numbers: the refusal first, 0 for none, and then its values; k is the book before the call
+
+-- 1 for a pass, 0 for a failure; lifts, pushes; the places, or the group
+abbrev pub triedFigures : Book → Tried → List ℕ
+triedFigures k t = pick (t .passed) (1 ∷ t .lifts ∷ t .pushes ∷ take (size k) (t .places)) (0 ∷ t .lifts ∷ t .pushes ∷ take (t .size) (t .group))
+
+abbrev pub replyNumbers : Book → Reply → List ℕ
+replyNumbers k (edited r) = numberOf (r .refusal) ∷ []
+replyNumbers k (reviewed r) = 0 ∷ r .makespan ∷ r .improving ∷ take (k .m) (r .loads)
+replyNumbers k (tried r) = pick (eqb (numberOf (r .refusal)) 0) (0 ∷ triedFigures k r) (numberOf (r .refusal) ∷ [])
+replyNumbers k (planned r) =
+    0 ∷ r .makespan ∷ r .bound ∷ r .level ∷ r .lifts ∷ r .pushes ∷ r .moves ∷ r .size ∷ take (r .size) (r .group)
+
+-- ---- what each call promises: its answer is the rules', and as those numbers too
+
+pub record ReviewAnswered (k : Book) (r : Reviewed) : Type 0 where
+  pub is : r ≡ reviewOf k
+  pub numbers : replyNumbers k (reviewed r) ≡ answerNumbers (answer k R.reviewing)
+
+pub record TrialAnswered (k : Book) (a : ℕ) (r : Tried) : Type 0 where
+  pub is : r ≡ trialOf k a
+  pub numbers : replyNumbers k (tried r) ≡ answerNumbers (answer k (R.trying a))
+
+pub record PlanAnswered (k : Book) (r : Planned) : Type 0 where
+  pub is : r ≡ planOf k
+  pub numbers : replyNumbers k (planned r) ≡ answerNumbers (answer k R.planning)

@@ -1,13 +1,9 @@
 -- Lists of calls on sheets (document 01, "Runs"): what the functions return, each call as a link from sheet to sheet, and what is
 -- claimed of a whole list.
--- Assumes nothing.
 use Prim.Native.Nat.{ℕ}
 use mathlib.Core.Path.{_≡_}
 use mathlib.Core.List.{List, [], _∷_, map}
-use lib.ListN.{take}
-use lib.Dec.{eqb}
-use Rattle.rules.specs.Fold.{pick}
-use Rattle.rules.specs.Sheet.{Book, size}
+use Rattle.rules.specs.Sheet.{Book}
 use Rattle.rules.specs.Edit.{Edit}
 use Rattle.rules.specs.Read.{read, accepted}
 use Rattle.rules.specs.Run.{Call, answer, next, bookAfter, answers, answerNumbers}
@@ -16,45 +12,25 @@ use Rattle.theory.proofs.Runs.{Claims}
 use Rattle.sheet.specs.declared.Sheet.{Sheet}
 use Rattle.sheet.specs.declared.Edited.{Edited}
 use Rattle.sheet.specs.Represent.{Sound, sheetOf, bookOf}
-use Rattle.sheet.specs.Answers.{numberOf, editOf}
+use Rattle.sheet.specs.Answers.{EditAnswered}
 use Rattle.planner.specs.declared.Tried.{Tried}
 use Rattle.planner.specs.declared.Planned.{Planned}
 use Rattle.planner.specs.declared.Reviewed.{Reviewed}
-use Rattle.planner.specs.Calls.{reviewOf, trialOf, planOf}
-
--- what a call's function returns
-pub data Reply : Type 0 where
-  edited : Edited → Reply
-  reviewed : Reviewed → Reply
-  tried : Tried → Reply
-  planned : Planned → Reply
+use Rattle.planner.specs.Calls.{Reply, edited, reviewed, tried, planned, replyNumbers, ReviewAnswered, TrialAnswered, PlanAnswered}
 
 -- A call on a sheet, its reply, and the sheet that the next call gets: the reply is what the function promises, word for word, and
 -- the next sheet is the one in it; review and a trial return none, so it is the same.
 pub data Link : Sheet → Call → Reply → Sheet → Type 0 where
-  editing : (s : Sheet) (e : Edit) (r : Edited) → r ≡ editOf s e → Link s (R.editing e) (edited r) (r .sheet)
-  reviewing : (s : Sheet) (r : Reviewed) → r ≡ reviewOf (bookOf s) → Link s R.reviewing (reviewed r) s
-  trying : (s : Sheet) (a : ℕ) (r : Tried) → r ≡ trialOf (bookOf s) a → Link s (R.trying a) (tried r) s
-  planning : (s : Sheet) (r : Planned) → r ≡ planOf (bookOf s) → Link s R.planning (planned r) (r .sheet)
+  editing : (s : Sheet) (e : Edit) (r : Edited) → EditAnswered s e r → Link s (R.editing e) (edited r) (r .sheet)
+  reviewing : (s : Sheet) (r : Reviewed) → ReviewAnswered (bookOf s) r → Link s R.reviewing (reviewed r) s
+  trying : (s : Sheet) (a : ℕ) (r : Tried) → TrialAnswered (bookOf s) a r → Link s (R.trying a) (tried r) s
+  planning : (s : Sheet) (r : Planned) → PlanAnswered (bookOf s) r → Link s R.planning (planned r) (r .sheet)
 
 -- a list of calls from sheet to sheet
 pub data Chain : Sheet → List Call → List Reply → Sheet → Type 0 where
   end : {s : Sheet} → Chain s [] [] s
   link : {s t u : Sheet} {c : Call} {r : Reply} {cs : List Call} {rs : List Reply} → Link s c r t → Chain t cs rs u
       → Chain s (c ∷ cs) (r ∷ rs) u
-
--- ---- a reply as document 01's numbers: the refusal first, 0 for none, and then its values; k is the book before the call
-
--- 1 for a pass, 0 for a failure; lifts, pushes; the places, or the group
-abbrev pub triedFigures : Book → Tried → List ℕ
-triedFigures k t = pick (t .passed) (1 ∷ t .lifts ∷ t .pushes ∷ take (size k) (t .places)) (0 ∷ t .lifts ∷ t .pushes ∷ take (t .size) (t .group))
-
-abbrev pub replyNumbers : Book → Reply → List ℕ
-replyNumbers k (edited r) = numberOf (r .refusal) ∷ []
-replyNumbers k (reviewed r) = 0 ∷ r .makespan ∷ r .improving ∷ take (k .m) (r .loads)
-replyNumbers k (tried r) = pick (eqb (numberOf (r .refusal)) 0) (0 ∷ triedFigures k r) (numberOf (r .refusal) ∷ [])
-replyNumbers k (planned r) =
-    0 ∷ r .makespan ∷ r .bound ∷ r .level ∷ r .lifts ∷ r .pushes ∷ r .moves ∷ r .size ∷ take (r .size) (r .group)
 
 -- the replies of a list of calls from the book k on
 unfoldable pub chainNumbers : Book → List Call → List Reply → List (List ℕ)

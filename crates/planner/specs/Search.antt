@@ -1,5 +1,4 @@
 -- The search over levels on arrays, and what of the rules' search it holds.
--- Assumes nothing.
 use Prim.Native.Nat.{ℕ, _+_, _≤_, _<_}
 use mathlib.Core.Path.{_≡_}
 use mathlib.Core.Bool.{Bool}

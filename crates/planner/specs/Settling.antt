@@ -1,5 +1,4 @@
 -- What settling and review say over arrays: placements with their loads beside them, and moves.
--- Assumes nothing.
 use Prim.Native.Nat.{ℕ, _≤_, _<_}
 use mathlib.Core.Path.{_≡_}
 use mathlib.Core.Bool.{Bool, not}

@@ -3,7 +3,7 @@ ghost use mathlib.Core.Path.{_≡_};
 ghost use Prim.Native.Nat.{_≤_};
 ghost use lib.ListN.{take};
 ghost use Rattle.sheet.specs.Represent.{Sound, bookOf, padded};
-ghost use Rattle.planner.specs.Calls.{trialOf, reviewOf, planOf};
+ghost use Rattle.planner.specs.Calls.{ReviewAnswered, TrialAnswered, PlanAnswered};
 use crate::Planned;
 use crate::Reviewed;
 use crate::Tried;
@@ -35,7 +35,7 @@ fn front(places: [u8; 200], n: usize) -> [u8; 200]
 // All loads, the makespan, and the lowest batch that improves, 0 where none does.
 pub fn review(sheet: Sheet) -> Reviewed
     requires { ⌜ Sound sheet ⌝ }
-    ensures { λ r. ⌜ r ≡ reviewOf (bookOf sheet) ⌝ }
+    ensures { λ r. ⌜ ReviewAnswered (bookOf sheet) r ⌝ }
 {
     let a = lay(sheet);
     let minutes = a.minutes;
@@ -54,7 +54,7 @@ pub fn review(sheet: Sheet) -> Reviewed
 // One trial at a level; a level above the total minutes is refused.
 pub fn trial(sheet: Sheet, level: u32) -> Tried
     requires { ⌜ Sound sheet ⌝ }
-    ensures { λ r. ⌜ r ≡ trialOf (bookOf sheet) level ⌝ }
+    ensures { λ r. ⌜ TrialAnswered (bookOf sheet) level r ⌝ }
 {
     let a = lay(sheet);
     let minutes = a.minutes;
@@ -103,7 +103,7 @@ pub fn trial(sheet: Sheet, level: u32) -> Tried
 // The search over levels from the standing places, and settling after it: the figures, and the sheet with its new places.
 pub fn plan(sheet: Sheet) -> Planned
     requires { ⌜ Sound sheet ⌝ }
-    ensures { λ r. ⌜ r ≡ planOf (bookOf sheet) ⌝ }
+    ensures { λ r. ⌜ PlanAnswered (bookOf sheet) r ⌝ }
 {
     let a = lay(sheet);
     let minutes = a.minutes;

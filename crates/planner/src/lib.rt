@@ -2,12 +2,12 @@
 use sheet::Refusal;
 use sheet::Sheet;
 
-pub mod balance;
+mod balance;
 pub mod calls;
-pub mod improve;
-pub mod laid;
-pub mod plan;
-pub mod settle;
+mod improve;
+mod laid;
+mod plan;
+mod settle;
 
 // What a review answers: the load of each machine, 0 past the last, the greatest, and the lowest job that would finish earlier
 // elsewhere, 0 where none would.

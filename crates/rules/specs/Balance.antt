@@ -1,6 +1,5 @@
 -- Document 01, "Planning": the search over levels. f is the highest level known to fail, −1 at first, and is kept as
 -- f + 1; p is the level of the assignment kept.
--- Assumes nothing.
 use Prim.Native.Nat.{ℕ, zero, suc, _+_, _-_, _/_}
 use mathlib.Core.Bool.{Bool, true, false}
 use mathlib.Core.List.{List, []}

@@ -1,6 +1,5 @@
 -- Document 01, "Cases": P1 to P10 in one table, with one theorem over it. The rows from 11 on are more of document 01's cases
 -- and ours: each tells a wrong rule from the right one.
--- Assumes nothing.
 use Prim.Native.Nat.{ℕ, _+_}
 use Prim.Native.String.{String}
 use mathlib.Core.Path.{_≡_, refl}

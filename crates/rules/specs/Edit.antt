@@ -1,5 +1,4 @@
 -- Document 01, "The sheet" and "Refusals": the four edits, with their checks in order.
--- Assumes nothing.
 use Prim.Native.Nat.{ℕ, zero, suc, _-_}
 use mathlib.Core.Bool.{Bool, true, false}
 use mathlib.Core.List.{List, [], _∷_, _++_}

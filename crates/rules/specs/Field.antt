@@ -1,6 +1,5 @@
 -- Document 01, "The sheet": a number in a file takes six columns, blanks first and then its digits. The number zero is
 -- the one digit 0, and every other number starts with another digit.
--- Assumes nothing.
 use Prim.Native.Nat.{ℕ, _+_, _-_, _*_}
 use mathlib.Core.Bool.{Bool}
 use mathlib.Core.List.{List, [], _∷_}

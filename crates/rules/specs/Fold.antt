@@ -1,5 +1,4 @@
 -- Lists by number from 1, and folds over the numbers 1 to k. Numbers start at 1 everywhere, and 0 stands for none.
--- Assumes nothing.
 use Prim.Native.Nat.{ℕ, zero, suc, _+_}
 use mathlib.Core.Bool.{Bool, true, false}
 use mathlib.Core.List.{List, [], _∷_, _++_}

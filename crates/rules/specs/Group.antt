@@ -1,5 +1,4 @@
 -- Document 01, "One trial at a level": pass or failure, and the group of a failure.
--- Assumes nothing.
 use Prim.Native.Nat.{ℕ, zero, suc}
 use mathlib.Core.Bool.{Bool, true}
 use mathlib.Core.List.{List}

@@ -1,6 +1,5 @@
 -- A journal: a list of calls as a text in the sheet's own style, a line for each call, and the text of their answers. The documents
 -- leave its form open; docs/DECISIONS.md says what was decided.
--- Assumes nothing.
 use Prim.Native.Nat.{ℕ, zero, suc}
 use mathlib.Core.List.{List, [], _∷_, _++_}
 use lib.ListN.{length}

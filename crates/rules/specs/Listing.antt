@@ -1,5 +1,4 @@
 -- Document 01, "The listing": its lines, what the program prints for any input, and what the host's call answers.
--- Assumes nothing.
 use Prim.Native.Nat.{ℕ, zero, suc}
 use mathlib.Core.Bool.{Bool, true, false}
 use mathlib.Core.List.{List, [], _∷_, _++_}

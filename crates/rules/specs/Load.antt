@@ -1,5 +1,4 @@
 -- Document 01, "Loads and settling": loads, the makespan, permitted assignments, who improves, and review.
--- Assumes nothing.
 use Prim.Native.Nat.{ℕ, _+_}
 use mathlib.Core.Bool.{Bool, not}
 use mathlib.Core.List.{List}

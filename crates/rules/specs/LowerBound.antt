@@ -1,5 +1,4 @@
 -- Document 01, "Planning": minutes confined to a group, the lower bound (document 01: the floor) and its witness.
--- Assumes nothing.
 use Prim.Native.Nat.{ℕ, _+_, _-_, _/_}
 use mathlib.Core.Bool.{Bool, false}
 use mathlib.Core.List.{List, [], _∷_}

@@ -1,5 +1,4 @@
 -- Document 01, "Planning": balance, then settle what it leaves.
--- Assumes nothing.
 use Prim.Native.Nat.{ℕ}
 use mathlib.Core.List.{List}
 use Rattle.rules.specs.Instance.{Instance, Assignment}

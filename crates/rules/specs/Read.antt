@@ -1,5 +1,4 @@
 -- Document 01, "The sheet": reading goes from the front, and the first fault met decides.
--- Assumes nothing.
 use Prim.Native.Nat.{ℕ, zero, suc}
 use mathlib.Core.Bool.{Bool, true, false, not}
 use mathlib.Core.List.{List, [], _∷_, _++_}

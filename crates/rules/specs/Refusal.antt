@@ -1,5 +1,4 @@
 -- Document 01, "Refusals": each refusal by name, and its number.
--- Assumes nothing.
 use Prim.Native.Nat.{ℕ}
 
 pub data Refusal : Type 0 where

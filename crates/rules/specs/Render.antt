@@ -1,6 +1,5 @@
 -- Document 01, "The sheet": the form of a file, said a second time by writing it. A description is a book whose places
 -- are as the file gives them, so 0 where none is given.
--- Assumes nothing.
 use Prim.Native.Nat.{ℕ, zero, suc, _+_, _/_, _%_, _^_}
 use mathlib.Core.Bool.{Bool}
 use mathlib.Core.List.{List, [], _∷_, _++_, map}
@@ -46,5 +45,5 @@ fits d = goodInstruments (d .m) and leb (size d) maxBatches and every (fitsBatch
 abbrev pub placed : Batch → Batch
 placed b = record { minutes = b .minutes; list = b .list; place = placeOr (b .place) (b .list) }
 
-abbrev pub bookOf : Book → Book
-bookOf d = record { m = d .m; batches = map placed (d .batches) }
+abbrev pub bookSaid : Book → Book
+bookSaid d = record { m = d .m; batches = map placed (d .batches) }

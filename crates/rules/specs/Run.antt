@@ -1,5 +1,4 @@
 -- Document 01, "Runs": calls, what each answers on the book, and the book after each.
--- Assumes nothing.
 use Prim.Native.Nat.{ℕ}
 use mathlib.Core.Bool.{Bool, true, false}
 use mathlib.Core.List.{List, [], _∷_}

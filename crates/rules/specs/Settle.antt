@@ -1,5 +1,4 @@
 -- Document 01, "Loads and settling": settling repeats one move until no job improves.
--- Assumes nothing.
 use Prim.Native.Nat.{ℕ, zero, suc, _*_, _/_}
 use Rattle.rules.specs.Fold.{put, sumTo, leastTo, greatestTo}
 use Rattle.rules.specs.Instance.{Instance, Assignment, n, minutesOf}

@@ -1,5 +1,4 @@
 -- Document 01, "The sheet" and "Runs": the limits, the book that says what a sheet holds, and when a book is sound.
--- Assumes nothing.
 use Prim.Native.Nat.{ℕ, zero, suc}
 use mathlib.Core.Bool.{Bool, true, not}
 use mathlib.Core.List.{List, [], _∷_}

@@ -1,5 +1,4 @@
 -- A text's bytes, so that files and listings can be written as texts. All characters used are ASCII, a byte each.
--- Assumes nothing.
 use Prim.Native.Nat.{ℕ}
 use Prim.Native.Char.{code}
 use Prim.Native.String.{String}

@@ -1,6 +1,5 @@
 -- Document 01, "One trial at a level" (source document 000, section 3.1): heights, arcs, who acts, and what it does.
 -- Document 01's bump is here a push, its raise a lift, its arrow an arc, light is underloaded and over is overloaded.
--- Assumes nothing.
 use Prim.Native.Nat.{ℕ, zero, suc, _+_, _*_}
 use mathlib.Core.Bool.{Bool, true, false}
 use mathlib.Core.List.{List}

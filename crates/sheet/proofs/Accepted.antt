@@ -1,5 +1,4 @@
 -- What reading answers: a sound sheet of the book that the rules give, or the rules' refusal, whose line is at most 202.
--- Assumes nothing.
 use Prim.Native.Nat.{ℕ, zero, suc, _+_, _≤_}
 use mathlib.Core.Path.{_≡_, refl, sym, ap, _∙_}
 use mathlib.Core.List.{List, [], _∷_, _++_}
@@ -17,7 +16,7 @@ use Rattle.sheet.specs.Represent.{Sound, bookOf}
 use Rattle.sheet.specs.Answers.{coded-number, numberOf, readAs, readOf}
 use Rattle.sheet.proofs.Represent.{book-sheet, sheet-sound}
 use Rattle.sheet.proofs.Extent.{Near, refuse, give, head-near, batch-near}
-use Rattle.sheet.proofs.Given.{coded-none}
+use Rattle.sheet.proofs.PartsRead.{coded-none}
 
 -- ---- a sheet that is not refused
 

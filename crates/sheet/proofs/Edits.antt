@@ -1,5 +1,4 @@
 -- What each edit gives on a sound sheet, in its arrays; and that the sheet stays sound.
--- Assumes nothing.
 use Prim.Native.Nat.{ℕ, _+_, _-_, _≤_, _<_}
 use mathlib.Core.Path.{_≡_, refl, sym, ap, _∙_}
 use mathlib.Core.Bool.{Bool, true, false}
@@ -21,9 +20,9 @@ use Rattle.sheet.specs.Represent.{padded, sheetOf, batchAt, bookOf, Soun
 use Rattle.sheet.specs.Answers.{editedAs, editOf}
 use Rattle.sheet.specs.Change.{removed, moved, requalified}
 use Rattle.sheet.proofs.Padded.{getD-zeros}
-use Rattle.sheet.proofs.Represent.{book-sheet, sheet-sound, append-law}
+use Rattle.sheet.proofs.Represent.{sheet-sound, append-law}
 use Rattle.sheet.proofs.Change.{onto, listing, remove-law, move-law, requalify-law}
-use Rattle.sheet.proofs.Held.{book-m, book-size, book-at, number-at, is-number, in-range, few-instruments, few-batches, narrow-book, good-long}
+use Rattle.sheet.proofs.SoundArrays.{book-m, book-size, book-at, number-at, is-number, in-range, few-instruments, few-batches, narrow-book, good-long}
 
 abbrev pub answer : Refusal → Sheet → Edited
 answer r s = record { refusal = r; sheet = s }
@@ -38,11 +37,6 @@ kept-sound s v (edited j) f = sheet-sound j (f j refl)
 pub edit-keeps : (s : Sheet) (e : Edit) → Sound s → Sound (editOf s e .sheet)
 unfolding editOf
 edit-keeps s e v = kept-sound s v (edit (bookOf s) e) (λ j q. edit-sound (bookOf s) e j (v .book) q)
-
--- and its book is the one that the edit gives
-pub edit-book : (s : Sheet) (e : Edit) (j : Book) → Sound s → edit (bookOf s) e ≡ edited j → bookOf (editOf s e .sheet) ≡ j
-unfolding editOf
-edit-book s e j v q = rw q (book-sheet j (edit-sound (bookOf s) e j (v .book) q))
 
 module _ (s : Sheet) (v : Sound s) where
   -- ---- withdraw

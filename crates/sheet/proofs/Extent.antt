@@ -1,5 +1,4 @@
 -- How far each part of a sheet reaches: it gives what it gives from its first bytes alone, and leaves the bytes after them.
--- Assumes nothing.
 use Prim.Native.Nat.{ℕ, zero, suc, _+_, _-_, _*_, _≤_, _<_}
 use mathlib.Core.Path.{_≡_, refl, sym, _∙_, subst}
 use mathlib.Core.Bool.{Bool, true, false, not}

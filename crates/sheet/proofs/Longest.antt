@@ -1,6 +1,5 @@
 -- The first 32,614 bytes decide: line 1 has 13 bytes and a batch line at most 163, so the longest sheet has 32,613 bytes, and
 -- one byte more shows that a file is longer.
--- Assumes nothing.
 use Prim.Native.Nat.{ℕ, zero, suc, _+_, _-_, _*_, _≤_}
 use mathlib.Core.Path.{_≡_, refl}
 use mathlib.Core.List.{List, [], _∷_, _++_}

@@ -1,5 +1,4 @@
 -- The marks of all batches, made row by row.
--- Assumes nothing.
 use Prim.Native.Nat.{ℕ, zero, suc, _+_, _-_, _*_, _≤_, _<_}
 use mathlib.Core.Path.{_≡_, refl, sym, ap, _∙_}
 use mathlib.Core.Bool.{true}
@@ -19,7 +18,7 @@ use Rattle.sheet.specs.declared.Sheet.{Sheet}
 use Rattle.sheet.specs.Represent.{padded, batchAt, bookOf, Sound}
 use Rattle.sheet.specs.View.{marksOf, markRows, marks}
 use Rattle.sheet.proofs.Padded.{padded-room, paste-at, paste-append}
-use Rattle.sheet.proofs.Held.{book-m, book-size, book-at, good-entry, few-instruments, short-list}
+use Rattle.sheet.proofs.SoundArrays.{book-m, book-size, book-at, good-entry, few-instruments, short-list}
 use Rattle.sheet.proofs.Marking.{length-marks}
 
 -- ---- rows

@@ -1,5 +1,4 @@
 -- Laws of a list in w entries, 0 past its end: an entry read, a store, a row pasted, a part taken out.
--- Assumes nothing.
 use Prim.Native.Nat.{ℕ, zero, suc, _+_, _-_, _≤_, _<_}
 use mathlib.Core.Path.{_≡_, refl, sym, ap, _∙_}
 use mathlib.Core.List.{List, [], _∷_, _++_, append-assoc}

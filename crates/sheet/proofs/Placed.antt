@@ -1,5 +1,4 @@
 -- A sheet with other places.
--- Assumes nothing.
 use Prim.Native.Nat.{ℕ, _+_, _-_, _≤_}
 use mathlib.Core.Path.{_≡_, refl, sym, ap, _∙_}
 use mathlib.Core.List.{List, [], _∷_, _++_, map}
@@ -12,7 +11,7 @@ use Rattle.rules.specs.Run.{placeAll, withPlaces}
 use Rattle.theory.proofs.Sound.{jobs-count, placed-places}
 use Rattle.sheet.specs.declared.Sheet.{Sheet}
 use Rattle.sheet.specs.Represent.{padded, rows, sheetOf, bookOf, Sound}
-use Rattle.sheet.proofs.Held.{book-size}
+use Rattle.sheet.proofs.SoundArrays.{book-size}
 
 -- ---- what the places do not touch
 

@@ -1,12 +1,12 @@
 -- What the calls answer, by the rules: each case of an enum with document 01's number and values.
--- Assumes nothing.
 use Prim.Native.Nat.{ℕ}
 use mathlib.Core.Path.{_≡_, refl}
-use mathlib.Core.List.{List}
+use mathlib.Core.List.{List, [], _∷_}
 use Rattle.rules.specs.Refusal.{malformed, badSize, badLength, badList, badPlace, noBatch, sheetFull, levelAbove, bufferShort, number}
 use Rattle.rules.specs.Refusal as R
 use Rattle.rules.specs.Edit as E
 use Rattle.rules.specs.Read as D
+use Rattle.rules.specs.Run.{answer, editing, answerNumbers}
 use Rattle.sheet.specs.declared.Sheet.{Sheet}
 use Rattle.sheet.specs.declared.Edited.{Edited}
 use Rattle.sheet.specs.declared.Reading.{Reading}
@@ -60,6 +60,11 @@ editedAs s (E.edited k) = record { refusal = Nothing; sheet = sheetOf k }
 unfoldable pub editOf : Sheet → E.Edit → Edited
 editOf s e = editedAs s (E.edit (bookOf s) e)
 
+-- what each edit promises: its answer is the rules', and as document 01's numbers too
+pub record EditAnswered (s : Sheet) (e : E.Edit) (r : Edited) : Type 0 where
+  pub is : r ≡ editOf s e
+  pub numbers : numberOf (r .refusal) ∷ [] ≡ answerNumbers (answer (bookOf s) (editing e))
+
 -- ---- reading
 
 abbrev pub readAs : D.Reading → Reading
@@ -68,3 +73,8 @@ readAs (D.refusedAt e j) = record { refusal = coded e; line = j; sheet = blank }
 
 unfoldable pub readOf : List ℕ → Reading
 readOf s = readAs (D.read s)
+
+-- what reading promises, likewise
+pub record ReadAnswered (s : List ℕ) (r : Reading) : Type 0 where
+  pub is : r ≡ readOf s
+  pub numbers : numberOf (r .refusal) ∷ r .line ∷ [] ≡ D.readingNumbers (D.read s)

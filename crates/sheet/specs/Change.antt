@@ -1,5 +1,4 @@
 -- What an edit does to the arrays of a sheet: a batch taken out, a place entered, a list and a place entered.
--- Assumes nothing.
 use Prim.Native.Nat.{ℕ, _+_, _-_, _*_}
 use mathlib.Core.List.{List, _++_}
 use lib.ListN.{set, take, drop, replicate}

@@ -1,5 +1,4 @@
 -- What the reader of a field's columns answers.
--- Assumes nothing.
 use Prim.Native.Nat.{ℕ, zero, suc}
 use mathlib.Core.Bool.{Bool}
 use lib.Dec.{leb, ltb, eqb}

@@ -1,5 +1,4 @@
 -- What the readers of a field, a list and a line answer, by the rules.
--- Assumes nothing.
 use Prim.Native.Nat.{ℕ, _-_}
 use mathlib.Core.Path.{_≡_, refl}
 use mathlib.Core.List.{List, [], _∷_}

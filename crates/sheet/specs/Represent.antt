@@ -1,5 +1,4 @@
 -- A book as a sheet's arrays, and a sheet's book. Unused entries are 0, so a sheet is a function of its book.
--- Assumes nothing.
 use Prim.Native.Nat.{ℕ, zero, suc, _+_, _-_, _*_}
 use mathlib.Core.Path.{_≡_}
 use mathlib.Core.Bool.{true}

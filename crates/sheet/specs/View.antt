@@ -1,5 +1,4 @@
 -- Who may run what, as entries of 1 and 0: a row of 24 for each job.
--- Assumes nothing.
 use Prim.Native.Nat.{ℕ}
 use mathlib.Core.List.{List, [], _∷_, _++_}
 use Rattle.rules.specs.Fold.{pick, mem, listTo}

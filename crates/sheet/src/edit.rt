@@ -7,7 +7,7 @@ ghost use Rattle.rules.specs.Fold.{_and_, mem, every};
 ghost use Rattle.rules.specs.Sheet.{isInstrument, distinct, goodList};
 ghost use Rattle.rules.specs.Edit.{kept, add as adding, withdraw as withdrawing, requalify as requalifying, move as moving};
 ghost use Rattle.sheet.specs.Represent.{Sound, padded};
-ghost use Rattle.sheet.specs.Answers.{editOf};
+ghost use Rattle.sheet.specs.Answers.{EditAnswered};
 ghost use Rattle.sheet.specs.Change.{cut, removed, requalified};
 use crate::Edited;
 use crate::Refusal;
@@ -18,7 +18,7 @@ impl Sheet {
     // A batch more, at the end, on the first listed.
     pub fn add(self, minutes: u32, list: &[u32]) -> Edited
         requires { ⌜ Sound self ⌝ }
-        ensures { λ r. ⌜ r ≡ editOf self (adding minutes (now (list .entry))) ⌝ }
+        ensures { λ r. ⌜ EditAnswered self (adding minutes (now (list .entry))) r ⌝ }
     {
         let n = self.n;
         let m = self.m;
@@ -52,7 +52,7 @@ impl Sheet {
     // The batch taken out; the later ones move down by one.
     pub fn withdraw(self, batch: u32) -> Edited
         requires { ⌜ Sound self ⌝ }
-        ensures { λ r. ⌜ r ≡ editOf self (withdrawing batch) ⌝ }
+        ensures { λ r. ⌜ EditAnswered self (withdrawing batch) r ⌝ }
     {
         let n = self.n;
         let b = batch as usize;
@@ -72,7 +72,7 @@ impl Sheet {
     // A new list; the place is kept where it is listed, and is the first listed otherwise.
     pub fn requalify(self, batch: u32, list: &[u32]) -> Edited
         requires { ⌜ Sound self ⌝ }
-        ensures { λ r. ⌜ r ≡ editOf self (requalifying batch (now (list .entry))) ⌝ }
+        ensures { λ r. ⌜ EditAnswered self (requalifying batch (now (list .entry))) r ⌝ }
     {
         let n = self.n;
         let m = self.m;
@@ -102,7 +102,7 @@ impl Sheet {
     // Another place of the batch's list.
     pub fn move_to(mut self, batch: u32, instrument: u32) -> Edited
         requires { ⌜ Sound self ⌝ }
-        ensures { λ r. ⌜ r ≡ editOf self (moving batch instrument) ⌝ }
+        ensures { λ r. ⌜ EditAnswered self (moving batch instrument) r ⌝ }
     {
         let n = self.n;
         let b = batch as usize;

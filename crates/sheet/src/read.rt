@@ -9,7 +9,7 @@ ghost use Rattle.rules.specs.Read.{headLine, instrumentsAt, batchLine, batchLin
 ghost use Rattle.sheet.specs.Represent.{padded};
 ghost use Rattle.sheet.specs.Columns.{numbered};
 ghost use Rattle.sheet.specs.Lines.{codedField, noHead, headAs, noList, listAs, noLine, lineAs, placingOf, lineEnd, lineList, unread};
-ghost use Rattle.sheet.specs.Answers.{readAs, readOf};
+ghost use Rattle.sheet.specs.Answers.{readAs, ReadAnswered};
 use crate::Reading;
 use crate::Refusal;
 use crate::Sheet;
@@ -377,7 +377,7 @@ fn batch_lines(s: &[u8], at: usize, m: usize, n: usize) -> Reading
 
 // The sheet that s holds, or the refusal of the first fault and its line.
 pub fn read(s: &[u8]) -> Reading
-    ensures { λ r. ⌜ r ≡ readOf (now (s .entry)) ⌝ }
+    ensures { λ r. ⌜ ReadAnswered (now (s .entry)) r ⌝ }
 {
     let h = head_line(s, 0, 1);
     let e = h.refusal;

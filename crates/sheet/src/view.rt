@@ -6,6 +6,7 @@ ghost use lib.ListN.{length, getD, take, drop, replicate};
 ghost use lib.Seq.{paste};
 ghost use Rattle.rules.specs.Instance.{Job, instance, n, places};
 ghost use Rattle.rules.specs.Run.{withPlaces};
+ghost use Rattle.theory.proofs.Valid.{Permitted};
 ghost use Rattle.sheet.specs.Represent.{Sound, padded, bookOf, sheetOf};
 ghost use Rattle.sheet.specs.View.{marksOf, marks};
 use crate::Sheet;
@@ -59,9 +60,9 @@ impl Sheet {
         marks
     }
 
-    // The batches on the places of x; what x has past the last batch is not taken.
+    // The batches on the places of x, which are permitted; what x has past the last batch is not taken.
     pub fn with_places(mut self, x: [u8; 200]) -> Sheet
-        requires { ⌜ Sound self ⌝ }
+        requires { ⌜ Sound self × Permitted (instance (bookOf self)) (take (n (instance (bookOf self))) x) ⌝ }
         ensures { λ r. ⌜ r ≡ sheetOf (withPlaces (bookOf self) (take (n (instance (bookOf self))) x)) ⌝ }
     {
         let n = self.n;

@@ -1,5 +1,4 @@
 -- Searches whose tests, and whose numbers, agree find the same; and what a search that finds something, or nothing, says.
--- Assumes nothing.
 use Prim.Native.Nat.{ℕ, zero, suc, _≤_, _<_}
 use mathlib.Core.Path.{_≡_, refl}
 use mathlib.Core.Bool.{Bool, true, false}

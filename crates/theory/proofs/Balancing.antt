@@ -1,6 +1,5 @@
 -- The search over levels: it ends with level f failed, or none, and p = f + 1 kept, whose assignment is permitted, ends no later
 -- than the standing one, and has no load above p + longest.
--- Assumes nothing.
 use Prim.Native.Nat.{ℕ, zero, suc, _+_, _-_, _≤_, _<_}
 use mathlib.Core.Path.{_≡_, refl}
 use mathlib.Core.Bool.{Bool, true, false}

@@ -1,6 +1,5 @@
 -- Heights stay small: a machine's at most 2m + 2, a job's at most 2m + 3, and a job that waits for a machine is low or can be
 -- pushed at once.
--- Assumes nothing.
 use Prim.Native.Nat.{ℕ, suc, _+_, _*_, _≤_, _<_}
 use mathlib.Core.Path.{_≡_, refl, sym, _∙_}
 use mathlib.Core.Bool.{true}

@@ -1,5 +1,4 @@
 -- The closure of a machine: the smallest set that holds it and, for each job on the set, the job's whole list.
--- Assumes nothing.
 use Prim.Native.Nat.{ℕ, zero, suc, _+_, _≤_, _<_}
 use mathlib.Core.Path.{_≡_, refl, sym, ap, _∙_}
 use mathlib.Core.Bool.{Bool, true, false, not}

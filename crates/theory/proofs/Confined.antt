@@ -1,5 +1,4 @@
 -- Minutes confined to a group bound every permitted assignment, and a closed group confines all that is on it.
--- Assumes nothing.
 use Prim.Native.Nat.{ℕ, suc, _+_, _-_, _*_, _≤_, _<_}
 use mathlib.Core.Path.{_≡_, refl, sym, _∙_}
 use mathlib.Core.Bool.{Bool, true, false}

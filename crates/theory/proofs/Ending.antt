@@ -1,6 +1,5 @@
 -- A trial, at any limits and from wherever it may start, ends because nothing acts any more, never because its steps were
 -- counted out, and its counts keep their bounds.
--- Assumes nothing.
 use Prim.Native.Nat.{_+_, _*_, _≤_}
 use mathlib.Core.Path.{_≡_, refl}
 use native.Mathlib.Omega.{arith}

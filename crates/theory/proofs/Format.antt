@@ -1,5 +1,4 @@
 -- Writing, then reading: the file of a description within the limits is read as the description's book.
--- Assumes nothing.
 use Prim.Native.Nat.{ℕ, suc, _^_, _≤_, _<_}
 use mathlib.Core.Path.{_≡_, refl, sym, ap, _∙_}
 use mathlib.Core.Bool.{true, false, not}
@@ -13,7 +12,7 @@ use Rattle.rules.specs.Fold.{_and_, _or_, mem, every}
 use Rattle.rules.specs.Sheet.{Book, Batch, size, maxBatches, goodInstruments, goodMinutes, isInstrument, distinct, goodList}
 use Rattle.rules.specs.Field.{Field, field}
 use Rattle.rules.specs.Read.{gives, fieldPart, numberAt, endOfLine, headLine, instrumentsAt, batchLine, accepted, batchLines, read}
-use Rattle.rules.specs.Render.{columns, fields, line, renderBatch, renderBatches, render, fitsBatch, fits, placed, bookOf}
+use Rattle.rules.specs.Render.{columns, fields, line, renderBatch, renderBatches, render, fitsBatch, fits, placed, bookSaid}
 use Rattle.theory.proofs.Logic.{and-left, and-right, and-mk, not-mk, or-cases, or-none}
 use Rattle.theory.proofs.Member.{mem-append, every-mem}
 use Rattle.theory.proofs.Field.{columns-length, field-columns}
@@ -166,7 +165,7 @@ head-read m n r e f =
       f,
     )
 
-pub read-render : (d : Book) → fits d ≡ true → read (render d) ≡ accepted (bookOf d)
+pub read-render : (d : Book) → fits d ≡ true → read (render d) ≡ accepted (bookSaid d)
 unfolding read render
 read-render d e =
     let f = fits-is d e in

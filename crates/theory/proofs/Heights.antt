@@ -1,6 +1,5 @@
 -- Heights in a trial: they never fall, a job is at most one higher than any machine it may run on, and a machine at most one
 -- higher than any job on it. Every step keeps this.
--- Assumes nothing.
 use Prim.Native.Nat.{ℕ, zero, suc, _≤_, _<_}
 use mathlib.Core.Path.{_≡_, refl, sym, ap, _∙_}
 use mathlib.Core.Bool.{true, not}

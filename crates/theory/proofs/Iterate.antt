@@ -1,5 +1,4 @@
 -- A trial as its steps made one after the other: wherever they come to rest is where the trial ends.
--- Assumes nothing.
 use Prim.Native.Nat.{ℕ, zero, suc, _+_, _-_}
 use mathlib.Core.Path.{_≡_, refl, sym, ap, _∙_}
 use Rattle.rules.specs.Instance.{Instance, Assignment}

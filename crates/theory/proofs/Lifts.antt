@@ -1,5 +1,4 @@
 -- The lifts of a trial: at most m(2m+1) + n(2m+2) (source document 000, Lemma 3.1). Each is paid for by a height that grows.
--- Assumes nothing.
 use Prim.Native.Nat.{ℕ, suc, _+_, _*_, _≤_, min}
 use native.Mathlib.Nat.{le-step, le-trans}
 use native.Mathlib.Omega.{arith}

@@ -1,5 +1,4 @@
 -- Laws of tests: and, or, not, and a case split that keeps the equation.
--- Assumes nothing.
 use mathlib.Core.Path.{_≡_, refl, sym, _∙_}
 use mathlib.Core.Bool.{Bool, true, false, not, true≢false}
 use Rattle.rules.specs.Fold.{_and_, _or_}

@@ -1,5 +1,4 @@
 -- The makespan and the longest job: each is the greatest of what it ranges over, and no job is longer than the makespan.
--- Assumes nothing.
 use Prim.Native.Nat.{ℕ, zero, suc, _+_, _≤_, _<_}
 use mathlib.Core.Path.{_≡_, refl}
 use native.Mathlib.Nat.{le-refl, le-trans}
@@ -58,10 +57,6 @@ makespan-ge I x i l u = max-ge (I .m) (load I x) i l u
 pub makespan-le : (I : Instance) (x : Assignment) (c : ℕ) → ((i : ℕ) → 0 < i → i ≤ I .m → load I x i ≤ c) → makespan I x ≤ c
 unfolding makespan
 makespan-le I x c h = max-le (I .m) (load I x) c h
-
-pub makespan-some : (I : Instance) (x : Assignment) → 0 < I .m → (i : ℕ) × (0 < i) × (i ≤ I .m) × (load I x i ≡ makespan I x)
-unfolding makespan
-makespan-some I x h = max-some (I .m) (load I x) h
 
 -- ---- the longest job
 

@@ -1,5 +1,4 @@
 -- One job put on another machine: the two loads that change, and what stays permitted.
--- Assumes nothing.
 use Prim.Native.Nat.{ℕ, _+_, _≤_, _<_}
 use mathlib.Core.Path.{_≡_, refl, sym, ap, _∙_}
 use mathlib.Core.Bool.{true}

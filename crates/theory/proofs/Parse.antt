@@ -1,5 +1,4 @@
 -- Reading, then writing: what is read without refusal is the file of a description within the limits.
--- Assumes nothing.
 use Prim.Native.Nat.{ℕ, zero, suc}
 use mathlib.Core.Path.{_≡_, refl, sym, ap, ap₂, _∙_, subst}
 use mathlib.Core.Bool.{Bool, true, false, not}
@@ -13,7 +12,7 @@ use Rattle.rules.specs.Refusal.{Refusal}
 use Rattle.rules.specs.Sheet.{Book, Batch, maxBatches, goodInstruments, goodMinutes, isInstrument, distinct, goodList}
 use Rattle.rules.specs.Field.{Field, value, fault, field}
 use Rattle.rules.specs.Read.{Part, gives, refuses, andThen, orRefuse, fieldPart, numberAt, endOfLine, Head, headLine, instrumentsAt, batchLine, Reading, accepted, refusedAt, onLine, batchLines, read}
-use Rattle.rules.specs.Render.{columns, fields, line, renderBatch, renderBatches, render, fitsBatch, fits, placed, bookOf}
+use Rattle.rules.specs.Render.{columns, fields, line, renderBatch, renderBatches, render, fitsBatch, fits, placed, bookSaid}
 use Rattle.theory.proofs.Logic.{and-left, and-right, and-mk, not-mk, or-none, or-skip}
 use Rattle.theory.proofs.Member.{mem-append}
 use Rattle.theory.proofs.Field.{field-value}
@@ -230,7 +229,7 @@ head-wrote r h s e =
     })))))))
 
 pub read-is-render : (s : List ℕ) (k : Book) → read s ≡ accepted k
-    → (d : Book) × (fits d ≡ true) × (bookOf d ≡ k) × (render d ≡ s)
+    → (d : Book) × (fits d ≡ true) × (bookSaid d ≡ k) × (render d ≡ s)
 unfolding read fits render
 read-is-render s k e =
     line-accepted 1 (headLine s) _ e (λ h r e₁ h₁.

@@ -1,6 +1,5 @@
 -- Planning, from a permitted assignment: the new one is permitted, settled and no later, and on an instance with a job it is within
 -- longest − 1 of every permitted assignment and of the lower bound, which has its witness.
--- Assumes nothing.
 use Prim.Native.Nat.{ℕ, suc, _+_, _*_, _≤_, _<_}
 use mathlib.Core.Path.{_≡_, refl, ap, _∙_}
 use mathlib.Core.Bool.{Bool, true, false}

@@ -1,6 +1,5 @@
 -- The pushes of a trial: at most (2m+3) times the summed lengths of the lists, so at most document 01's (4m+4) times that
 -- (source document 000, Lemma 3.1). Each turns one arc, whose end gets one higher.
--- Assumes nothing.
 use Prim.Native.Nat.{ℕ, zero, suc, _+_, _*_, _≤_, _<_}
 use mathlib.Core.Path.{_≡_, refl}
 use mathlib.Core.Bool.{Bool, true, false}

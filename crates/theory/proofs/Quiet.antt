@@ -1,23 +1,19 @@
 -- Where nothing is overloaded at the start, a trial makes no step. So no pass ends later than the standing assignment.
--- Assumes nothing.
 use Prim.Native.Nat.{ℕ, suc, _+_, _≤_, _<_}
 use mathlib.Core.Path.{_≡_, refl}
 use native.Mathlib.Nat.{le-refl}
 use native.Mathlib.Omega.{arith}
 use native.Mathlib.Decide.{decLe}
-use Rattle.rules.specs.Fold.{at}
 use Rattle.rules.specs.Instance.{Instance, Assignment}
 use Rattle.rules.specs.Load.{load, longest, makespan}
-use Rattle.rules.specs.Trial.{Limits, atLevel, State, Act, rest, act, start, ended, endedBy, stepsBy, overloaded}
-use Rattle.rules.specs.Group.{Tried, passed, trial}
-use Rattle.theory.proofs.View.{Some, here}
+use Rattle.rules.specs.Trial.{Limits, atLevel, State, Act, rest, act, start, ended, endedBy, stepsBy}
 use Rattle.theory.proofs.Valid.{Valid, Permitted, on-machine}
 use Rattle.theory.proofs.Makespan.{makespan-ge, makespan-le}
 use Rattle.theory.proofs.Step.{Step, step}
 use Rattle.theory.proofs.Heights.{unplaced-eq}
 use Rattle.theory.proofs.Steps.{stays}
 use Rattle.theory.proofs.Underloaded.{overloaded-gt}
-use Rattle.theory.proofs.Trial.{Outcome, passes, fails, outcome, Passes}
+use Rattle.theory.proofs.Trial.{Passes}
 
 module _ (I : Instance) (x : Assignment) (v : Valid I) (w : Permitted I x) where
   module _ (a : Limits) (calm : (i : ℕ) → 0 < i → i ≤ I .m → load I x i ≤ a .high i) where
@@ -43,17 +39,6 @@ module _ (I : Instance) (x : Assignment) (v : Valid I) (w : Permitted I x) where
     level-end : ended I x a ≡ start I x
     unfolding atLevel
     level-end = quiet-end (atLevel I a) calm
-
-    pub quiet-passes : trial I x a ≡ passed x 0 0
-    unfolding atLevel
-    quiet-passes = from (outcome I x v w a)
-      where
-        from : {t : Tried} → Outcome I x v w a t → t ≡ passed x 0 0
-        from (passes p) = rw level-end
-        from (fails g f) = absurd (loud (f .over))
-          where
-            loud : Some (I .m) (λ i. overloaded I (atLevel I a) (ended I x a) i) → ⊥
-            loud (here i p q o) = omega (arith, calm i p q, overloaded-gt I (atLevel I a) (start I x) i (rw level-end at o))
 
   -- a pass never ends later than the standing assignment
   pub pass-no-later : (a : ℕ) → Passes I x v w a (ended I x a) → makespan I (ended I x a .assignment) ≤ makespan I x

@@ -1,6 +1,5 @@
 -- Where a trial ends, at any limits and from wherever it may start: no machine is underloaded, or nothing can act. If something overflows
 -- then, there is a closed group with no underloaded machine, and every permitted assignment has a load above its machine's lower limit.
--- Assumes nothing.
 use Prim.Native.Nat.{ℕ, _+_, _*_, _≤_, _<_}
 use mathlib.Core.Path.{_≡_}
 use mathlib.Core.Bool.{true, false}

@@ -1,5 +1,4 @@
 -- Review answers settled exactly where no job improves, and otherwise names the lowest job that does.
--- Assumes nothing.
 use Prim.Native.Nat.{ℕ, suc, _+_, _≤_, _<_}
 use mathlib.Core.Path.{_≡_}
 use mathlib.Core.Bool.{true, false, not}

@@ -1,6 +1,5 @@
 -- Lists of calls on the book (document 01, "Runs"): the book stays sound along every list, and each trial and each planning in it
 -- keeps what document 01 claims of it.
--- Assumes nothing.
 use Prim.Native.Nat.{ℕ, _+_, _≤_, _<_}
 use mathlib.Core.Path.{_≡_, refl, _∙_}
 use mathlib.Core.Bool.{true}

@@ -1,6 +1,5 @@
 -- Settling: a move lowers the sum of squared loads by 2 or more and never raises the makespan. So half of that sum is
 -- enough moves, and the end is an equilibrium.
--- Assumes nothing.
 use Prim.Native.Nat.{ℕ, zero, suc, _+_, _*_, _/_, _≤_, _<_}
 use mathlib.Core.Path.{_≡_, refl, sym}
 use mathlib.Core.Bool.{true}
@@ -16,7 +15,7 @@ use Rattle.theory.proofs.Logic.{conflict}
 use Rattle.theory.proofs.View.{Least, least, Greatest, greatest, nowhere, found}
 use Rattle.theory.proofs.Valid.{Valid, Permitted, eligible-job, on-machine}
 use Rattle.theory.proofs.Makespan.{makespan-ge, makespan-le}
-use Rattle.theory.proofs.Review.{Better, Improves, elsewhere-is, is-elsewhere, improves-is, is-improves, improves-not, settled-none, none-settled}
+use Rattle.theory.proofs.Review.{Better, Improves, elsewhere-is, is-elsewhere, improves-is, is-improves, improves-not, none-settled}
 use Rattle.theory.proofs.Square.{move-drop, sumTo-two}
 use Rattle.theory.proofs.Move.{load-left, load-joined, load-other, put-permitted}
 
@@ -44,7 +43,7 @@ target-better I x b r = from (least (I .m) (elsewhere I x b) (load I x))
           },
         )
 
--- no job moves exactly where the assignment is an equilibrium
+-- where no job moves, the assignment is an equilibrium
 pub mover-none : (I : Instance) (x : Assignment) → mover I x ≡ 0 → equilibrium I x ≡ true
 unfolding mover
 mover-none I x e = from (greatest (n I) (improves I x) (minutesOf I)) e
@@ -52,14 +51,6 @@ mover-none I x e = from (greatest (n I) (improves I x) (minutesOf I)) e
     from : {r : ℕ} → Greatest (n I) (improves I x) (minutesOf I) r → r ≡ 0 → equilibrium I x ≡ true
     from (nowhere h) z = none-settled I x (λ b l u. improves-not I x b (h b l u))
     from (found j l t h) z = absurd (omega arith)
-
-pub none-mover : (I : Instance) (x : Assignment) → equilibrium I x ≡ true → mover I x ≡ 0
-unfolding mover
-none-mover I x e = from (greatest (n I) (improves I x) (minutesOf I))
-  where
-    from : {r : ℕ} → Greatest (n I) (improves I x) (minutesOf I) r → r ≡ 0
-    from (nowhere h) = refl
-    from (found j l t h) = absurd (settled-none I x e (suc j) (omega arith) l (improves-is I x (suc j) t))
 
 -- the mover improves, and is the longest that does
 pub mover-some : (I : Instance) (x : Assignment) (b : ℕ) → mover I x ≡ suc b
@@ -190,10 +181,6 @@ run-same {I} v (suc f) (suc g) x made (suc b) w h k e =
     run-same v f g y (suc made) (mover I y) (moved-permitted w (suc b) r) (omega arith) (omega arith) refl
 
 -- ---- settling
-
-pub settle-settled : (I : Instance) (x : Assignment) → equilibrium I x ≡ true → settle I x ≡ record { assignment = x; moves = 0 }
-unfolding settle
-settle-settled I x e = rw (none-mover I x e) (run-still I _ x 0)
 
 module _ {I : Instance} {x : Assignment} (v : Valid I) (w : Permitted I x) where
   settle-ended : Ended I x 0 (settle I x)

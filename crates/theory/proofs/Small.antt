@@ -1,5 +1,4 @@
 -- Numbers of an instance of at most 24 machines and 200 jobs, each of at most 1440 minutes.
--- Assumes nothing.
 use Prim.Native.Nat.{ℕ, _+_, _*_, _≤_}
 use mathlib.Core.Bool.{Bool, true, false}
 use native.Mathlib.Nat.{le-refl, le-trans, mul-le-mul, mul-le-mul-right, mul-le-mul-left}

@@ -1,6 +1,5 @@
 -- A book that is read is sound, stays sound under every edit and every permitted placement, and gives a valid instance
 -- with its places permitted.
--- Assumes nothing.
 use Prim.Native.Nat.{ℕ, zero, suc, _-_, _≤_, _<_}
 use mathlib.Core.Path.{_≡_, refl, sym, ap, _∙_, subst, subst₂}
 use mathlib.Core.Bool.{Bool, true, false}
@@ -15,7 +14,7 @@ use Rattle.rules.specs.Sheet.{Batch, Book, size, batch, noBatchHere, isBatch, h
 use Rattle.rules.specs.Edit.{Edit, add, withdraw, requalify, move, Edited, edited, unless, kept, without, withBatch, edit}
 use Rattle.rules.specs.Instance.{Assignment, Job, noJob, n, jobOf, instance, places, minutesOf, eligible}
 use Rattle.rules.specs.Read.{accepted, placeOr, read}
-use Rattle.rules.specs.Render.{fitsBatch, fits, placed, bookOf}
+use Rattle.rules.specs.Render.{fitsBatch, fits, placed, bookSaid}
 use Rattle.rules.specs.Run.{placeAll, withPlaces}
 use Rattle.theory.proofs.Logic.{byTest, conflict, and-left, and-right, and-mk, or-cases}
 use Rattle.theory.proofs.Member.{mem-head, every-append, every-one, every-at, every-set, every-mem}
@@ -108,10 +107,10 @@ unfolding every
 fits-every m [] e = e
 fits-every m (b ∷ bs) e = and-mk _ _ (fits-good m b (and-left _ _ e)) (fits-every m bs (and-right (fitsBatch m b) _ e))
 
-pub fits-sound : (d : Book) → fits d ≡ true → sound (bookOf d) ≡ true
+pub fits-sound : (d : Book) → fits d ≡ true → sound (bookSaid d) ≡ true
 fits-sound d e =
     let f = fits-is d e in
-    is-sound (bookOf d) (record {
+    is-sound (bookSaid d) (record {
       instruments = f .instruments;
       room = omega (arith, length-map (d .batches) placed, leb-true (size d) maxBatches (f .room));
       batches = fits-every (d .m) (d .batches) (f .batches);

@@ -1,6 +1,5 @@
 -- A job that moves to a machine where it finishes earlier lowers the sum of the two squared loads by 2 or more; and sums
 -- that differ in two parts.
--- Assumes nothing.
 use Prim.Native.Nat.{ℕ, _+_, _*_, _-_, _≤_, _<_}
 use mathlib.Core.Path.{_≡_, refl, sym}
 use mathlib.Core.Logic.{_≢_}

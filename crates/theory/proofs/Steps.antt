@@ -1,5 +1,4 @@
 -- A trial whose steps are bounded comes to rest within the bound, and keeps what each step keeps.
--- Assumes nothing.
 use Prim.Native.Nat.{ℕ, zero, suc, _+_, _≤_}
 use mathlib.Core.Path.{_≡_, refl}
 use native.Mathlib.Omega.{arith}

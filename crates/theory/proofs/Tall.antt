@@ -1,5 +1,4 @@
 -- Heights in a closure fall by at most 2 each round, so around a machine of height above 2m every machine is lifted.
--- Assumes nothing.
 use Prim.Native.Nat.{ℕ, zero, suc, _+_, _*_, _≤_, _<_}
 use mathlib.Core.Path.{_≡_, refl}
 use mathlib.Core.Bool.{true}

@@ -1,6 +1,5 @@
 -- One trial from a permitted assignment: it ends with every job in its place, and what a pass and what a failure at a level show (source
 -- document 000, Lemma 3.2).
--- Assumes nothing.
 use Prim.Native.Nat.{ℕ, suc, _+_, _*_, _≤_, _<_}
 use mathlib.Core.Path.{_≡_, refl}
 use mathlib.Core.Bool.{true, false}

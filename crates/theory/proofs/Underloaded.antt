@@ -1,6 +1,5 @@
 -- Two more invariants of a trial: a machine that was ever lifted is not underloaded, and, where it starts from a permitted assignment, at
 -- most one job is without a place, while some machine is underloaded. So at such a trial's end every job has its place.
--- Assumes nothing.
 use Prim.Native.Nat.{ℕ, suc, _+_, _*_, _≤_, _<_}
 use mathlib.Core.Path.{_≡_, refl, sym, _∙_}
 use mathlib.Core.Bool.{Bool, true, false}

@@ -1,5 +1,4 @@
 -- What the theorems ask of an instance and of an assignment. A sound book gives both (Sound).
--- Assumes nothing.
 use Prim.Native.Nat.{ℕ, zero, suc, _≤_, _<_}
 use mathlib.Core.Path.{_≡_, refl}
 use mathlib.Core.Bool.{true}

@@ -1,5 +1,4 @@
 -- Groups of machines as lists and as words say the same.
--- Assumes nothing.
 use Prim.Native.Nat.{ℕ, zero, suc, _-_, _*_, _/_, _%_, _^_, _≤_, _<_}
 use mathlib.Core.Path.{_≡_, refl, sym, ap, _∙_}
 use mathlib.Core.Bool.{Bool, true, false}
@@ -19,7 +18,7 @@ use Rattle.theory.proofs.Member.{mem-none}
 use Rattle.theory.proofs.Those.{those-mem, those-range}
 use Rattle.theory.proofs.Closure.{IsGroup, those}
 use Rattle.arrays.specs.Sets.{has, SetOf}
-use Rattle.trials.specs.Grouping.{groupBy, Holds}
+use Rattle.trials.specs.Grouping.{groupBy, HoldsList}
 use Rattle.arrays.proofs.Bits.{bit, bit-zero}
 use Rattle.arrays.proofs.Words.{has-bit, set-none}
 use Rattle.arrays.proofs.Masks.{set-same}
@@ -116,10 +115,10 @@ none-group = set-same (λ i. mem i []) (λ i l u. sym (mem-none i)) set-none
 
 -- ---- the list, in an array of 24 with zeros after it
 
-pub holds-none : Holds [] (replicate 24 0) 0
+pub holds-none : HoldsList [] (replicate 24 0) 0
 holds-none = record { front = refl; count = refl; few = omega arith; padded = refl }
 
-holds-more : (g array : List ℕ) (size v : ℕ) → size < 24 → Holds g array size → Holds (g ++ (v ∷ [])) (set array size v) (suc size)
+holds-more : (g array : List ℕ) (size v : ℕ) → size < 24 → HoldsList g array size → HoldsList (g ++ (v ∷ [])) (set array size v) (suc size)
 holds-more g array size v l h = record {
   front = ap (take (suc size)) stored ∙ take-at _ _ (suc size) long;
   count = sym long;
@@ -139,11 +138,11 @@ holds-more g array size v l h = record {
         ∙ set-at g 0 (replicate (24 - suc size) 0) v size (sym (h .count))
         ∙ sym (append-assoc g (v ∷ []) (replicate (24 - suc size) 0))
 
-module _ (p : ℕ → Bool) (array : List ℕ) (size i : ℕ) (h : Holds (thoseTo i p) array size) where
-  pub holds-in : p (suc i) ≡ true → size < 24 → Holds (thoseTo (suc i) p) (set array size (suc i)) (suc size)
+module _ (p : ℕ → Bool) (array : List ℕ) (size i : ℕ) (h : HoldsList (thoseTo i p) array size) where
+  pub holds-in : p (suc i) ≡ true → size < 24 → HoldsList (thoseTo (suc i) p) (set array size (suc i)) (suc size)
   unfolding thoseTo
   holds-in e l = rw e (holds-more (thoseTo i p) array size (suc i) l h)
 
-  pub holds-out : p (suc i) ≡ false → Holds (thoseTo (suc i) p) array size
+  pub holds-out : p (suc i) ≡ false → HoldsList (thoseTo (suc i) p) array size
   unfolding thoseTo
   holds-out e = rw (e, append-nil (thoseTo i p)) h

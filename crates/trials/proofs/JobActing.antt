@@ -1,5 +1,4 @@
 -- A job without a place acts: it is put on a machine, or is lifted.
--- Assumes nothing.
 use Prim.Native.Nat.{ℕ, suc, _+_, _≤_, _<_}
 use mathlib.Core.Path.{_≡_, refl, sym, ap, _∙_}
 use mathlib.Core.Bool.{Bool, true, false}
@@ -25,7 +24,7 @@ use Rattle.arrays.proofs.Kept.{kept-on}
 use Rattle.trials.specs.declared.State.{State}
 use Rattle.trials.specs.Moves.{waits, placed, jobLifted}
 use Rattle.trials.specs.Track.{stateOf, idle, JobActs, Stepped}
-use Rattle.trials.proofs.Take.{at-take, take-put}
+use Rattle.arrays.proofs.Take.{at-take, take-put}
 use Rattle.trials.proofs.Waiting.{some-machine, first-can}
 
 module _ {I : Instance} {a : Limits} {m c : ℕ} {lengths sets : List ℕ} {t : State} {b : ℕ} (v : JobActs I a m c lengths sets t b) where

@@ -6,7 +6,6 @@ pub mod Running
 pub mod Scanned
 pub mod Small
 pub mod Stepping
-pub mod Take
 pub mod Verdict
 pub mod Waiting
 pub mod Within

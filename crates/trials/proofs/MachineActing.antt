@@ -1,5 +1,4 @@
 -- A machine that may acts: it takes a job off, or is lifted.
--- Assumes nothing.
 use Prim.Native.Nat.{ℕ, suc, _+_, _-_, _≤_, _<_}
 use mathlib.Core.Path.{_≡_, sym, ap, _∙_}
 use mathlib.Core.Bool.{Bool, true}
@@ -25,7 +24,7 @@ use Rattle.arrays.proofs.Kept.{left-enough, kept-off}
 use Rattle.trials.specs.declared.State.{State}
 use Rattle.trials.specs.Moves.{waits, takenOff, machineLifted}
 use Rattle.trials.specs.Track.{stateOf, idle, MachineActs, Stepped}
-use Rattle.trials.proofs.Take.{at-take, take-put}
+use Rattle.arrays.proofs.Take.{at-take, take-put}
 use Rattle.trials.proofs.Waiting.{first-can}
 
 module _ {I : Instance} {a : Limits} {c : ℕ} {lengths sets : List ℕ} {t : State} {i : ℕ} (v : MachineActs I a c lengths sets t i) where

@@ -1,5 +1,4 @@
 -- One round of the closure by words, and rounds until one adds nothing.
--- Assumes nothing.
 use Prim.Native.Nat.{ℕ, zero, suc, _-_, _^_, _≤_, _<_}
 use mathlib.Core.Path.{_≡_, refl, sym, ap, ap₂, _∙_}
 use mathlib.Core.Bool.{Bool, true, false}
@@ -18,7 +17,7 @@ use Rattle.theory.proofs.Closure.{IsGroup, those, group-range, reach-group}
 use Rattle.arrays.specs.Sets.{has, SetOf}
 use Rattle.arrays.specs.Reads.{Reads}
 use Rattle.trials.specs.Grouping.{among}
-use Rattle.trials.proofs.Take.{at-take}
+use Rattle.arrays.proofs.Take.{at-take}
 use Rattle.arrays.proofs.Search.{and-no-left}
 use Rattle.theory.proofs.Agree.{any-ext}
 use Rattle.arrays.proofs.Words.{has-or, set-zero}

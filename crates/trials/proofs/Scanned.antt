@@ -1,5 +1,4 @@
 -- What the searches over loads and limits find is what the rules say of the machines.
--- Assumes nothing.
 use Prim.Native.Nat.{ℕ, _*_, _≤_, _<_}
 use mathlib.Core.Path.{_≡_, sym, ap, _∙_}
 use mathlib.Core.List.{List}
@@ -14,7 +13,7 @@ use Rattle.theory.proofs.Acting.{able}
 use Rattle.arrays.specs.Reads.{Kept}
 use Rattle.trials.specs.declared.State.{State}
 use Rattle.trials.specs.Track.{stateOf, Setup}
-use Rattle.trials.proofs.Take.{at-take}
+use Rattle.arrays.proofs.Take.{at-take}
 
 module _ {I : Instance} {a : Limits} {m c : ℕ} {lengths sets lows highs : List ℕ} (u : Setup I a m c lengths sets lows highs) (t : State)
     (k : Kept I (take (n I) (t .places)) (t .loads)) where

@@ -1,5 +1,4 @@
 -- Numbers in a trial stay small.
--- Assumes nothing.
 use Prim.Native.Nat.{ℕ, _+_, _≤_, _<_}
 use mathlib.Core.List.{List}
 use native.Mathlib.Omega.{arith}
@@ -10,7 +9,7 @@ use Rattle.theory.proofs.Ending.{Counted, made-bound}
 use Rattle.arrays.specs.Reads.{Reads, Kept}
 use Rattle.trials.specs.declared.State.{State}
 use Rattle.trials.specs.Track.{stateOf}
-use Rattle.trials.proofs.Take.{at-take}
+use Rattle.arrays.proofs.Take.{at-take}
 
 module _ {I : Instance} {m c : ℕ} {lengths sets : List ℕ} (r : Reads I m c lengths sets) where
   pub loads-small : (x : Assignment) (loads : List ℕ) → Kept I x loads → (i : ℕ) → 0 < i → i ≤ m → at loads i ≤ 288000

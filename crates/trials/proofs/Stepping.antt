@@ -1,5 +1,4 @@
 -- Who acts, by the arrays; and where nothing does.
--- Assumes nothing.
 use Prim.Native.Nat.{ℕ, suc, _*_}
 use mathlib.Core.Path.{_≡_, sym, ap, _∙_}
 use mathlib.Core.Bool.{true, false}

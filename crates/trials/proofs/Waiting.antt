@@ -1,5 +1,4 @@
 -- The jobs that can act are those that wait: they have no place, and some machine may run them.
--- Assumes nothing.
 use Prim.Native.Nat.{ℕ, suc, _+_, _≤_, _<_}
 use mathlib.Core.Path.{_≡_, refl, sym, _∙_}
 use mathlib.Core.Bool.{Bool, true, false}
@@ -27,7 +26,7 @@ use Rattle.arrays.proofs.Words.{set-zero, empty-zero}
 use Rattle.trials.specs.declared.State.{State}
 use Rattle.trials.specs.Moves.{waits}
 use Rattle.trials.specs.Track.{stateOf, Tracks}
-use Rattle.trials.proofs.Take.{at-take}
+use Rattle.arrays.proofs.Take.{at-take}
 
 and-rest : (x y : Bool) → x and y ≡ false → x ≡ true → y ≡ false
 unfolding _and_

@@ -1,5 +1,4 @@
 -- A trial on arrays from a permitted assignment: how it starts, and what it leaves.
--- Assumes nothing.
 use Prim.Native.Nat.{ℕ}
 use mathlib.Core.Path.{_≡_}
 use mathlib.Core.Bool.{Bool, true, false}

@@ -1,5 +1,4 @@
 -- Groups of machines: as words, as lists, and what lies in them.
--- Assumes nothing.
 use Prim.Native.Nat.{ℕ, _-_, _≤_}
 use mathlib.Core.Path.{_≡_}
 use mathlib.Core.Bool.{Bool, true, not}
@@ -24,7 +23,7 @@ abbrev pub groupBy : Instance → Assignment → ℕ → Bool → List ℕ
 groupBy I x i some = pick some (closure I x i) (thoseTo (I .m) (λ j. true))
 
 -- an array of 24 and a size hold the list g, with zeros after it
-pub record Holds (g array : List ℕ) (size : ℕ) : Type 0 where
+pub record HoldsList (g array : List ℕ) (size : ℕ) : Type 0 where
   pub front : take size array ≡ g
   pub count : size ≡ length g
   pub few : size ≤ 24

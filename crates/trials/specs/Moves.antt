@@ -1,5 +1,4 @@
 -- What each of the four moves makes of a state's arrays. Jobs and machines are given by index.
--- Assumes nothing.
 use Prim.Native.Nat.{ℕ, _+_, _-_}
 use mathlib.Core.Bool.{Bool, true}
 use mathlib.Core.List.{List}

@@ -12,7 +12,7 @@ ghost use Rattle.rules.specs.Load as Load;
 ghost use Rattle.theory.proofs.Closure.{IsGroup};
 ghost use Rattle.arrays.specs.Sets.{has, SetOf};
 ghost use Rattle.arrays.specs.Reads.{Reads};
-ghost use Rattle.trials.specs.Grouping.{among, inside, groupBy, Holds};
+ghost use Rattle.trials.specs.Grouping.{among, inside, groupBy, HoldsList};
 use crate::scan::some_underloaded;
 use arrays::MACHINES;
 use arrays::sets::is_in;
@@ -105,7 +105,7 @@ pub struct Members {
 // The machines 1 to `m` of a set, ascending.
 pub fn members_of(x: u32, m: usize) -> Members
     requires { ⌜ m ≤ 24 ⌝ }
-    ensures { λ r. ⌜ Holds (thoseTo m (λ i. has x i)) (r .list) (r .size) ⌝ }
+    ensures { λ r. ⌜ HoldsList (thoseTo m (λ i. has x i)) (r .list) (r .size) ⌝ }
 {
     let mut list = [0u8; MACHINES];
     let mut size: usize = 0;

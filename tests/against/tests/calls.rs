@@ -58,19 +58,19 @@ fn a_difference_shows() {
 
 #[test]
 fn reviews_and_trials() {
-    let seen = compare_runs(240, |run| cases::reviews_and_trials(run, 100));
+    let seen = compare_runs(120, |run| cases::reviews_and_trials(run, 100));
     println!("{}", seen.summary());
-    assert_eq!((seen.cases, seen.sheets), (24_000, 24_000));
+    assert_eq!((seen.cases, seen.sheets), (12_000, 12_000));
     let reviews = seen.calls[5][0];
     assert_eq!(reviews, seen.gaining + seen.settled);
-    assert!(reviews >= 24_000);
-    assert!(seen.gaining >= 10_000 && seen.settled >= 10_000);
-    assert!(seen.calls[6][8] >= 48_000, "levels above the total");
+    assert!(reviews >= 12_000);
+    assert!(seen.gaining >= 10_000 && seen.settled >= 8_000);
+    assert!(seen.calls[6][8] >= 24_000, "levels above the total");
     let trials = &seen.trials;
     assert_eq!(seen.calls[6][0], trials.passed + trials.failed);
-    assert!(trials.passed >= 200_000 && trials.worked >= 50_000);
-    assert!(trials.failed >= 40_000);
-    assert!(trials.partial >= 10_000 && trials.several >= 1_000);
+    assert!(trials.passed >= 100_000 && trials.worked >= 50_000);
+    assert!(trials.failed >= 30_000);
+    assert!(trials.partial >= 5_000 && trials.several >= 1_000);
     assert!(trials.most >= 10_000);
     for kind in 1..=4 {
         assert!(seen.calls[kind][0] >= 1_000, "edits of kind {kind}");
@@ -91,11 +91,11 @@ fn hard_sheets() {
 
 #[test]
 fn runs() {
-    let seen = compare_runs(200, |run| cases::runs(run, 100));
+    let seen = compare_runs(120, |run| cases::runs(run, 100));
     println!("{}", seen.summary());
-    assert_eq!((seen.cases, seen.sheets), (20_000, 20_000));
+    assert_eq!((seen.cases, seen.sheets), (12_000, 12_000));
     for kind in 1..=7 {
-        assert!(seen.calls[kind][0] >= 5_000, "calls of kind {kind}");
+        assert!(seen.calls[kind][0] >= 4_000, "calls of kind {kind}");
     }
     for (kind, refusal) in [
         (1, 3),
@@ -109,6 +109,6 @@ fn runs() {
     ] {
         assert!(seen.calls[kind][refusal] >= 100, "{refusal} of kind {kind}");
     }
-    assert!(seen.grouped >= 10_000 && seen.ungrouped >= 1_000);
+    assert!(seen.grouped >= 5_000 && seen.ungrouped >= 1_000);
     assert!(seen.moved >= 5_000);
 }

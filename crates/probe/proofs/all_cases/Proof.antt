@@ -1,5 +1,4 @@
 -- `probe::all_cases` is safe and ends: the measure is the number of turns that are left.
--- Assumes nothing.
 use mathlib.Core.Path.{_≡_}
 use lib.ListN.{length}
 use borrow.Author.Needs.{needs}

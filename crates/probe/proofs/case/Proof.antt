@@ -1,5 +1,4 @@
 -- `probe::case` is safe: the sheet that reading hands on is sound.
--- Assumes nothing.
 use mathlib.Core.Path.{sym}
 use lib.Seq.{length-take-le}
 use native.Mathlib.Omega.{arith}
@@ -40,7 +39,7 @@ part-run-end c = search needs
 
 run-requires : tie.Need-run-requires
 run-requires c κs =
-    is-accepted _ _ (c .before .before .before .before .before .read .ensures) (c .before .before .before .enum-told .given .1) .sound
+    is-accepted _ _ (c .before .before .before .before .before .read .ensures .is) (c .before .before .before .enum-told .given .1) .sound
 
 write-requires : tie.Need-write-requires
 write-requires c κs = search needs

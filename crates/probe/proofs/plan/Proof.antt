@@ -1,5 +1,4 @@
 -- `probe::plan` leaves a sound sheet, as planning does.
--- Assumes nothing.
 use Rattle.planner.proofs.Drawing.{plan-keeps}
 use borrow.Author.Needs.{needs}
 use Rattle.probe.proofs.plan.Statement.{statement}
@@ -17,7 +16,7 @@ same-length c = search needs
 returns : tie.Need-returns
 returns c =
     let p = c .before .before .before .before .before in
-    rw (p .plan .ensures) (plan-keeps _ (p .before .before .pre))
+    rw (p .plan .ensures .is) (plan-keeps _ (p .before .before .pre))
 
 pub plan-spec : {M : Type 1} → statement M
 plan-spec = tie.close (tie.spec plan-requires plan-requires-2 same-length returns)

@@ -1,5 +1,4 @@
 -- `planner::scan::total` meets its contract. `sum` is the sum of the entries passed, each below 65536.
--- Assumes nothing.
 use Prim.Native.Nat.{ℕ, _≤_, _-_}
 use mathlib.Core.Path.{_≡_, refl, ap, _∙_}
 use native.Mathlib.Numerals.{add-one}

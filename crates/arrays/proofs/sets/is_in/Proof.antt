@@ -1,5 +1,4 @@
 -- A shift brings the digit to the end.
--- Assumes nothing.
 use Prim.Native.Nat.{suc, _-_}
 use mathlib.Core.Path.{_≡_}
 use native.Mathlib.Omega.{arith}

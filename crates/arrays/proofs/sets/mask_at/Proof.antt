@@ -1,5 +1,4 @@
 -- `planner::sets::mask_at` meets its contract. `x` is the set that the flags passed spell.
--- Assumes nothing.
 use Prim.Native.Nat.{ℕ, suc, _≤_, _-_, _+_}
 use mathlib.Core.Path.{_≡_}
 use mathlib.Core.Bool.{Bool}

@@ -1,5 +1,4 @@
 -- Each job's flags as a set, one after the other.
--- Assumes nothing.
 use Prim.Native.Nat.{_≤_, _-_}
 use mathlib.Core.Path.{_≡_}
 use native.Mathlib.Omega.{arith}

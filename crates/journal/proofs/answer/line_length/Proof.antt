@@ -1,5 +1,4 @@
 -- The length by the kind of answer.
--- Assumes nothing.
 use mathlib.Core.Path.{refl}
 use borrow.Author.Needs.{needs}
 use Rattle.journal.proofs.answer.line_length.Statement.{statement}

@@ -1,5 +1,4 @@
 -- By the kind of answer.
--- Assumes nothing.
 use mathlib.Core.Path.{refl}
 use borrow.Author.Needs.{needs}
 use Rattle.journal.proofs.answer.put_answer.Statement.{statement}

@@ -1,5 +1,4 @@
 -- An end behind the fields.
--- Assumes nothing.
 use Prim.Native.Nat.{_+_, _*_}
 use mathlib.Core.Path.{refl}
 use mathlib.Core.List.{[], _∷_}

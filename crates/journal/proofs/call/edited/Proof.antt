@@ -1,5 +1,4 @@
 -- Each kind's edit.
--- Assumes nothing.
 use mathlib.Core.Path.{sym, ap, _∙_}
 use lib.Seq.{length-take-le}
 use borrow.Author.Needs.{needs}
@@ -18,13 +17,13 @@ add-requires : tie.Need-add-requires
 add-requires c κs = search needs
 
 returns : tie.Need-returns
-returns c = c .add .ensures ∙ ap (editOf (c .before .before .before .before .args .sheet)) (edit-add (c .before .before .before .before .args .e) (c .before .before .if1 .taken))
+returns c = c .add .ensures .is ∙ ap (editOf (c .before .before .before .before .args .sheet)) (edit-add (c .before .before .before .before .args .e) (c .before .before .if1 .taken))
 
 withdraw-requires : tie.Need-withdraw-requires
 withdraw-requires c κs = search needs
 
 returns-2 : tie.Need-returns-2
-returns-2 c = c .withdraw .ensures ∙ ap (editOf (c .before .before .before .before .args .sheet)) (edit-withdraw (c .before .before .before .before .args .e) (c .before .before .if1 .left) (c .before .if2 .taken))
+returns-2 c = c .withdraw .ensures .is ∙ ap (editOf (c .before .before .before .before .args .sheet)) (edit-withdraw (c .before .before .before .before .args .e) (c .before .before .if1 .left) (c .before .if2 .taken))
 
 array-share-prefix-list-2 : tie.Need-array-share-prefix-list-2
 array-share-prefix-list-2 c = c .before .before .before .before .pre .1
@@ -37,7 +36,7 @@ requalify-requires c κs = search needs
 
 returns-3 : tie.Need-returns-3
 returns-3 c =
-    c .requalify .ensures
+    c .requalify .ensures .is
     ∙ ap (editOf (c .before .before .before .before .before .before .args .sheet)) (edit-requalify (c .before .before .before .before .before .before .args .e) (c .before .before .before .before .if1 .left) (c .before .before .before .if2 .left) (c .before .before .if3 .taken))
 
 move-to-requires : tie.Need-move-to-requires
@@ -45,7 +44,7 @@ move-to-requires c κs = search needs
 
 returns-4 : tie.Need-returns-4
 returns-4 c =
-    c .move-to .ensures
+    c .move-to .ensures .is
     ∙ ap (editOf (c .before .before .before .before .before .args .sheet)) (edit-move (c .before .before .before .before .before .args .e) (c .before .before .before .if1 .left) (c .before .before .if2 .left) (c .before .if3 .left))
 
 pub edited-spec : {M : Type 1} → statement M

@@ -1,5 +1,4 @@
 -- After j turns the first j entries of the part are in place.
--- Assumes nothing.
 use Prim.Native.Nat.{_-_}
 use native.Mathlib.Omega.{arith}
 use borrow.Author.Needs.{needs}

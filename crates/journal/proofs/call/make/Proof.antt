@@ -1,9 +1,8 @@
 -- Each kind's call.
--- Assumes nothing.
 use mathlib.Core.Path.{ap, _∙_}
 use native.Mathlib.Omega.{arith}
 use Rattle.sheet.specs.Represent.{bookOf}
-use Rattle.sheet.proofs.Shown.{view-instruments, view-batches}
+use Rattle.sheet.proofs.SoundViews.{view-instruments, view-batches}
 use Rattle.journal.specs.Answering.{madeOf}
 use Rattle.journal.proofs.Said.{said-review, said-trial, said-plan, said-edit}
 use Rattle.journal.proofs.Replies.{made-edit, made-review, made-trial, made-plan, review-long, trial-long, plan-long}
@@ -21,7 +20,7 @@ of-review-requires : tie.Need-of-review-requires
 of-review-requires c κs =
     let v = c .before .before .before .pre .0 in
     let u = view-instruments (c .before .before .before .args .sheet) v .1 in
-    let l = review-long (c .before .before .before .args .sheet) v _ (c .review .ensures) in
+    let l = review-long (c .before .before .before .args .sheet) v _ (c .review .ensures .is) in
     (omega (arith, c .before .instruments .ensures), omega (arith, c .before .instruments .ensures))
 
 returns : tie.Need-returns
@@ -40,7 +39,7 @@ of-trial-requires : tie.Need-of-trial-requires
 of-trial-requires c κs =
     let v = c .before .before .before .before .pre .0 in
     let u = view-batches (c .before .before .before .before .args .sheet) v in
-    let g = trial-long (c .before .before .before .before .args .sheet) v (c .before .before .before .before .args .e .a) _ (c .trial .ensures) in
+    let g = trial-long (c .before .before .before .before .args .sheet) v (c .before .before .before .before .args .e .a) _ (c .trial .ensures .is) in
     (omega (arith, c .before .batches .ensures), omega (arith, c .before .batches .ensures, g .places), g .few, omega (arith, g .few, g .group))
 
 returns-2 : tie.Need-returns-2
@@ -53,7 +52,7 @@ plan-requires : tie.Need-plan-requires
 plan-requires c κs = search needs
 
 of-plan-requires : tie.Need-of-plan-requires
-of-plan-requires c κs = plan-long (c .before .before .before .before .before .args .sheet) (c .before .before .before .before .before .pre .0) _ (c .before .plan .ensures)
+of-plan-requires c κs = plan-long (c .before .before .before .before .before .args .sheet) (c .before .before .before .before .before .pre .0) _ (c .before .plan .ensures .is)
 
 returns-3 : tie.Need-returns-3
 returns-3 c =

@@ -1,5 +1,4 @@
 -- The refusal's number alone.
--- Assumes nothing.
 use Prim.Native.Nat.{ℕ}
 use mathlib.Core.Path.{ap, _∙_}
 use mathlib.Core.Bool.{false}

@@ -1,5 +1,4 @@
 -- The group behind the plan's figures.
--- Assumes nothing.
 use mathlib.Core.Path.{refl, sym}
 use mathlib.Core.Bool.{true}
 use mathlib.Core.List.{[], _∷_}

@@ -1,5 +1,4 @@
 -- The loads behind the makespan and the batch that improves.
--- Assumes nothing.
 use mathlib.Core.Path.{refl}
 use mathlib.Core.Bool.{false}
 use mathlib.Core.List.{[], _∷_}

@@ -1,5 +1,4 @@
 -- A refusal, a pass, a failure.
--- Assumes nothing.
 use mathlib.Core.Path.{_∙_}
 use native.Mathlib.Omega.{arith}
 use Rattle.journal.proofs.Replies.{trial-refused, trial-passed, trial-failed}

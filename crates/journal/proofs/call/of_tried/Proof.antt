@@ -1,5 +1,4 @@
 -- The list behind the verdict, the lifts and the pushes.
--- Assumes nothing.
 use mathlib.Core.Path.{refl}
 use mathlib.Core.Bool.{false}
 use mathlib.Core.List.{[], _∷_}

@@ -1,5 +1,4 @@
 -- Both arms say what the test picks.
--- Assumes nothing.
 use borrow.Author.Tests.{lt-ltb, le-ltb}
 use Rattle.journal.proofs.entry.kept_of.Statement.{statement}
 use Rattle.journal.proofs.entry.kept_of.Tie as tie

@@ -1,5 +1,4 @@
 -- How many, and then the numbers.
--- Assumes nothing.
 use borrow.Author.Needs.{needs}
 use Rattle.rules.specs.Journal.{listAt}
 use Rattle.sheet.proofs.Lines.{number-there, number-missing, number-room}

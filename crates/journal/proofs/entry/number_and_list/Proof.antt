@@ -1,5 +1,4 @@
 -- The number, and then the list.
--- Assumes nothing.
 use Prim.Native.Nat.{_+_}
 use borrow.Author.Needs.{needs}
 use lib.ListN.{length, drop}

@@ -1,5 +1,4 @@
 -- The invariant: k of the numbers are read, and what is left goes on from them as the rules do.
--- Assumes nothing.
 use Prim.Native.Nat.{ℕ, _-_}
 use mathlib.Core.Path.{refl, ap, _∙_}
 use mathlib.Core.List.{List}

@@ -1,5 +1,4 @@
 -- Each number is read in its turn, or missing.
--- Assumes nothing.
 use Prim.Native.Nat.{_+_}
 use borrow.Author.Needs.{needs}
 use Rattle.sheet.proofs.Lines.{number-there, number-missing, number-room, next-at}

@@ -1,5 +1,4 @@
 -- The numbers of a refusal fit its line, and the answers their buffer.
--- Assumes nothing.
 use native.Mathlib.Omega.{arith}
 use Rattle.journal.proofs.Printing.{Modest, ran-modest, answers-printed, refusal-printed}
 use Rattle.listing.specs.Host.{hostedOf}
@@ -13,7 +12,7 @@ told : (c : tie.After-bankplan-run)
     → Modest (length (c .before .before .before .before .before .args .out .now)) (hostedOf (c .bankplan-run .result) (c .bankplan-run .last .1 .1 .0))
 told c =
     let a = c .before .before .before .before .before in
-    ran-modest (a .args .sheet .now) (a .args .journal .now) _ (a .pre .1) _ _ (c .bankplan-run .ensures .0)
+    ran-modest (a .args .sheet .now) (a .args .journal .now) _ (a .pre .1) _ _ (c .bankplan-run .ensures)
 
 bankplan-run-requires : tie.Need-bankplan-run-requires
 bankplan-run-requires c κs = search needs
@@ -24,7 +23,7 @@ same-length c = search needs
 returns : tie.Need-returns
 returns c =
     let a = c .before .before .before .before .before .before .before .before .args in
-    (told (c .before .before .before) .few, answers-printed (a .sheet .now) (a .journal .now) (a .out .now) (c .before .before .before .before .before .before .before .before .pre .1) _ _ (c .before .before .before .bankplan-run .ensures .0) (c .if1 .taken))
+    (told (c .before .before .before) .few, answers-printed (a .sheet .now) (a .journal .now) (a .out .now) (c .before .before .before .before .before .before .before .before .pre .1) _ _ (c .before .before .before .bankplan-run .ensures) (c .if1 .taken))
 
 cast-line : tie.Need-cast-line
 cast-line c = omega (arith, told (c .before .before .before .before) .place)
@@ -40,7 +39,7 @@ same-length-2 c = search needs
 returns-2 : tie.Need-returns-2
 returns-2 c =
     let a = c .before .before .before .before .before .before .before .before .before .before .before .before .before .args in
-    (omega (arith, c .before .before .before .before .before .before .before .before .before .before .before .before .before .pre .0), refusal-printed (a .sheet .now) (a .journal .now) (a .out .now) (c .before .before .before .before .before .before .before .before .before .before .before .before .before .pre .1) _ _ (c .before .before .before .before .before .before .before .before .bankplan-run .ensures .0) (c .before .before .before .before .before .if1 .left) _ (c .before .before .put-refusal .ensures))
+    (omega (arith, c .before .before .before .before .before .before .before .before .before .before .before .before .before .pre .0), refusal-printed (a .sheet .now) (a .journal .now) (a .out .now) (c .before .before .before .before .before .before .before .before .before .before .before .before .before .pre .1) _ _ (c .before .before .before .before .before .before .before .before .bankplan-run .ensures) (c .before .before .before .before .before .if1 .left) _ (c .before .before .put-refusal .ensures))
 
 pub print-spec : {M : Type 1} → statement M
 print-spec =

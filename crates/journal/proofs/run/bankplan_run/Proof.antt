@@ -1,8 +1,6 @@
 -- The sheet that reading hands on is sound, and a refusal is the rules'.
--- Assumes nothing.
 use mathlib.Core.Path.{_∙_}
-use Rattle.theory.proofs.Runs.{run-claims}
-use Rattle.sheet.proofs.Given.{some-refusal}
+use Rattle.sheet.proofs.PartsRead.{some-refusal}
 use Rattle.sheet.proofs.Accepted.{Accepted, is-accepted, is-refused}
 use Rattle.journal.proofs.Hosting.{run-refused, run-ran}
 use borrow.Author.Needs.{needs}
@@ -11,7 +9,7 @@ use Rattle.journal.proofs.run.bankplan_run.Tie as tie
 
 -- what was read
 taken : (c : tie.After-enum-told) → Accepted (c .before .before .before .before .before .before .args .sheet .now) (c .before .before .read .result)
-taken c = is-accepted _ _ (c .before .before .read .ensures) (c .enum-told .given .1)
+taken c = is-accepted _ _ (c .before .before .read .ensures .is) (c .enum-told .given .1)
 
 read-requires : tie.Need-read-requires
 read-requires c κs = search needs
@@ -23,10 +21,8 @@ code-requires : tie.Need-code-requires
 code-requires c κs = search needs
 
 returns : tie.Need-returns
-returns c = (
-  run-refused _ (c .before .before .before .before .before .before .args .journal .now) _ _ _ (is-refused (c .before .before .before .before .before .before .args .sheet .now) _ (c .before .before .read .ensures) (some-refusal _ (c .before .match .keys2))) (c .code .ensures),
-  λ k cs e f. run-claims _ k e cs,
-)
+returns c =
+    run-refused _ (c .before .before .before .before .before .before .args .journal .now) _ _ _ (is-refused (c .before .before .before .before .before .before .args .sheet .now) _ (c .before .before .read .ensures .is) (some-refusal _ (c .before .match .keys2))) (c .code .ensures)
 
 run-on-requires : tie.Need-run-on-requires
 run-on-requires c κs = taken (c .before .before) .sound
@@ -35,10 +31,8 @@ same-length : tie.Need-same-length
 same-length c = search needs
 
 returns-2 : tie.Need-returns-2
-returns-2 c = (
-  c .before .before .run-on .ensures ∙ run-ran _ (c .before .before .before .before .before .before .before .before .before .before .before .args .journal .now) _ _ (taken (c .before .before .before .before .before) .book),
-  λ k cs e f. run-claims _ k e cs,
-)
+returns-2 c =
+    c .before .before .run-on .ensures ∙ run-ran _ (c .before .before .before .before .before .before .before .before .before .before .before .args .journal .now) _ _ (taken (c .before .before .before .before .before) .book)
 
 pub bankplan-run-spec : {M : Type 1} → statement M
 bankplan-run-spec =

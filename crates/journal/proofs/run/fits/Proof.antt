@@ -1,5 +1,4 @@
 -- The invariant: the run so far, and what the answers so far leave of the room.
--- Assumes nothing.
 use Prim.Native.Nat.{_+_, _-_}
 use mathlib.Core.Path.{_≡_, sym, ap}
 use native.Mathlib.Omega.{arith}

@@ -1,5 +1,4 @@
 -- A fault, a buffer that is too short, the answers.
--- Assumes nothing.
 use mathlib.Core.Path.{sym, _∙_}
 use borrow.Author.Tests.{leb-true, not-true, not-false}
 use Rattle.sheet.specs.Represent.{bookOf}

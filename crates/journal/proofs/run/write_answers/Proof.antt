@@ -1,5 +1,4 @@
 -- The invariant: the run so far, and its answers at the front of the buffer, up to `to`.
--- Assumes nothing.
 use Prim.Native.Nat.{ℕ, _+_, _-_, _<_, _^_}
 use mathlib.Core.Path.{_≡_, refl, sym, ap}
 use native.Mathlib.Omega.{arith}

@@ -1,7 +1,6 @@
 -- The sheet that reading hands on is sound, and a refusal is the rules'.
--- Assumes nothing.
 use mathlib.Core.Path.{_∙_}
-use Rattle.sheet.proofs.Given.{some-refusal}
+use Rattle.sheet.proofs.PartsRead.{some-refusal}
 use Rattle.sheet.proofs.Accepted.{Accepted, is-accepted, Refused, is-refused}
 use Rattle.listing.proofs.Hosting.{host-refused, host-listed}
 use borrow.Author.Needs.{needs}
@@ -10,10 +9,10 @@ use Rattle.listing.proofs.host.bankplan_plan.Tie as tie
 
 -- what was refused, and what was read
 refused : (c : tie.At-match-keys2) → Refused (c .before .before .before .before .args .sheet .now) (c .before .read .result)
-refused c = is-refused _ _ (c .before .read .ensures) (some-refusal _ (c .match .keys2))
+refused c = is-refused _ _ (c .before .read .ensures .is) (some-refusal _ (c .match .keys2))
 
 taken : (c : tie.After-enum-told) → Accepted (c .before .before .before .before .before .args .sheet .now) (c .before .before .read .result)
-taken c = is-accepted _ _ (c .before .before .read .ensures) (c .enum-told .given .1)
+taken c = is-accepted _ _ (c .before .before .read .ensures .is) (c .enum-told .given .1)
 
 read-requires : tie.Need-read-requires
 read-requires c κs = search needs

@@ -1,5 +1,4 @@
 -- The plan's numbers fit their columns, and the text from the arrays is the listing of the sheet's book.
--- Assumes nothing.
 use native.Mathlib.Omega.{arith}
 use Rattle.sheet.specs.Represent.{bookOf}
 use Rattle.listing.proofs.Planned.{Answered, answered, answered-length, answered-text}
@@ -11,7 +10,7 @@ use Rattle.listing.proofs.host.list_into.Tie as tie
 -- what is planned
 planned : (c : tie.After-batches)
     → Answered (c .before .before .before .args .sheet) (c .before .before .before .pre) (c .before .plan .result) (c .batches .result)
-planned c = answered _ (c .before .before .before .pre) _ _ (c .before .plan .ensures) (c .batches .ensures)
+planned c = answered _ (c .before .before .before .pre) _ _ (c .before .plan .ensures .is) (c .batches .ensures)
 
 plan-requires : tie.Need-plan-requires
 plan-requires c κs = search needs

@@ -1,5 +1,4 @@
 -- The buffer is long enough for every listing, so what the host refuses is a sheet.
--- Assumes nothing.
 use native.Mathlib.Omega.{arith}
 use Rattle.listing.proofs.Printing.{is-listed, Unlisted, is-unlisted, row-printed, program-short}
 use borrow.Author.Needs.{needs}

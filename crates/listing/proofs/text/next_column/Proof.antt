@@ -1,5 +1,4 @@
 -- `text::next_column` meets its contract, at each of its three ends.
--- Assumes nothing.
 use mathlib.Core.Path.{sym}
 use borrow.Author.Needs.{needs}
 use Rattle.listing.proofs.Columns.{column-last, column-blank, column-digit}

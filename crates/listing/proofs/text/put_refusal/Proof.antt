@@ -1,5 +1,4 @@
 -- `text::put_refusal` meets its contract: an end behind two fields.
--- Assumes nothing.
 use Prim.Native.Nat.{ℕ}
 use mathlib.Core.Path.{refl}
 use mathlib.Core.List.{List, [], _∷_}

@@ -1,5 +1,4 @@
 -- `text::put_row` meets its contract: an end behind three fields.
--- Assumes nothing.
 use Prim.Native.Nat.{ℕ, _+_}
 use mathlib.Core.Path.{refl}
 use mathlib.Core.List.{List, [], _∷_}

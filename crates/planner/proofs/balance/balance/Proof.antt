@@ -1,5 +1,4 @@
 -- The invariant: what is left of the search ends as the whole does. The measure is the gap between the two levels.
--- Assumes nothing.
 use Prim.Native.Nat.{_+_, _-_, _/_, _≤_}
 use mathlib.Core.Path.{_≡_, refl}
 use native.Mathlib.Omega.{arith}

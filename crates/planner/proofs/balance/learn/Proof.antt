@@ -1,5 +1,4 @@
 -- Both cases as the definition has them.
--- Assumes nothing.
 use mathlib.Core.Path.{refl}
 use Rattle.planner.specs.Search.{learned}
 use borrow.Author.Needs.{needs}

@@ -1,11 +1,10 @@
 -- The invariant: the entries passed, with zeros after them.
--- Assumes nothing.
 use Prim.Native.Nat.{_≤_, _-_}
 use mathlib.Core.Path.{_≡_, refl}
 use native.Mathlib.Omega.{arith}
 use lib.ListN.{take}
 use Rattle.sheet.specs.Represent.{padded}
-use Rattle.planner.proofs.Stands.{front-one}
+use Rattle.planner.proofs.SheetArrays.{front-one}
 use borrow.Author.Needs.{needs}
 use Rattle.planner.proofs.calls.front.Statement.{statement}
 use Rattle.planner.proofs.calls.front.Tie as tie

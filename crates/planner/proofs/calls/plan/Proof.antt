@@ -1,10 +1,10 @@
 -- The plan over the sheet's arrays is the rules'.
--- Assumes nothing.
 use mathlib.Core.Path.{refl, _∙_}
 use native.Mathlib.Omega.{arith}
 use borrow.Author.Needs.{needs}
 use Rattle.sheet.specs.Represent.{bookOf}
-use Rattle.planner.proofs.Drawing.{plan-shown}
+use Rattle.planner.proofs.Answered.{plan-answered}
+use Rattle.planner.proofs.Drawing.{drawn-permitted, plan-shown}
 use Rattle.planner.proofs.calls.plan.Statement.{statement}
 use Rattle.planner.proofs.calls.plan.Tie as tie
 
@@ -24,13 +24,17 @@ draw-requires c κs =
     ((_, k), (omega (arith, u, c .before .before .before .before .before .before .lay .ensures .wide .0), omega (arith, u, c .before .before .before .before .before .before .lay .ensures .wide .1)))
 
 with-places-requires : tie.Need-with-places-requires
-with-places-requires c κs = search needs
+with-places-requires c κs =
+    let a = c .before .before .before .before .before .before .before .before .before in
+    let k = a .lay .ensures .stands in
+    (a .before .pre, drawn-permitted k (c .before .before .draw .ensures _ k))
 
 returns : tie.Need-returns
 returns c =
     let l = c .before .before .before .before .before .before .before .before .before .before .lay .ensures in
-    plan-shown (bookOf (c .before .before .before .before .before .before .before .before .before .before .before .args .sheet)) (c .before .before .before .draw .result) _ (l .shown) (c .before .before .before .draw .ensures _ (l .stands))
-    (c .with-places .ensures ∙ (rw (l .stands .reads .jobs) refl))
+    plan-answered
+    (plan-shown (bookOf (c .before .before .before .before .before .before .before .before .before .before .before .args .sheet)) (c .before .before .before .draw .result) _ (l .shown) (c .before .before .before .draw .ensures _ (l .stands))
+    (c .with-places .ensures ∙ (rw (l .stands .reads .jobs) refl)))
 
 pub plan-spec : {M : Type 1} → statement M
 plan-spec =

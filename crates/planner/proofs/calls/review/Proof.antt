@@ -1,8 +1,8 @@
 -- The three numbers by the searches that give them.
--- Assumes nothing.
 use native.Mathlib.Omega.{arith}
 use borrow.Author.Needs.{needs}
-use Rattle.planner.proofs.Stands.{lays-placing, lays-known, review-shown}
+use Rattle.planner.proofs.Answered.{review-answered}
+use Rattle.planner.proofs.SheetArrays.{lays-placing, lays-known, review-shown}
 use Rattle.planner.proofs.Reviewing.{review-is}
 use Rattle.planner.proofs.calls.review.Statement.{statement}
 use Rattle.planner.proofs.calls.review.Tie as tie
@@ -34,9 +34,10 @@ first-improving-requires c κs = lays-known (c .before .before .before .before .
 returns : tie.Need-returns
 returns c =
     let a = c .before .before .before .before .before .before .before .before .before .before .before .lay .ensures in
-    review-shown _ _ (a .wide .3) (a .stands .reads .few) (a .shown)
+    review-answered
+    (review-shown _ _ (a .wide .3) (a .stands .reads .few) (a .shown)
     (review-is (a .stands .reads) _ _ (lays-placing a) (c .before .before .before .before .before .largest-load .ensures) (c .first-improving .ensures _ (a .stands .reads) (lays-placing a)))
-    (a .rest)
+    (a .rest))
 
 pub review-spec : {M : Type 1} → statement M
 review-spec =

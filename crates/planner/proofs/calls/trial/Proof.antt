@@ -1,5 +1,4 @@
 -- The trial over the sheet's arrays is the rules'.
--- Assumes nothing.
 use Prim.Native.Nat.{_≤_}
 use mathlib.Core.Path.{_≡_, _∙_}
 use native.Mathlib.Omega.{arith}
@@ -9,7 +8,8 @@ use Rattle.rules.specs.Instance.{instance}
 use Rattle.rules.specs.Load.{total, longest}
 use Rattle.theory.proofs.Small.{total-small, longest-small}
 use Rattle.sheet.specs.Represent.{bookOf}
-use Rattle.planner.proofs.Shows.{total-is, longest-is, trial-refused, trial-passed, trial-failed}
+use Rattle.planner.proofs.Answered.{trial-answered}
+use Rattle.planner.proofs.TrialAnswers.{total-is, longest-is, trial-refused, trial-passed, trial-failed}
 use Rattle.planner.proofs.calls.trial.Statement.{statement}
 use Rattle.planner.proofs.calls.trial.Tie as tie
 
@@ -52,7 +52,7 @@ returns c =
     let q = total-is (c .before .before .before .before .lay .ensures .stands .reads) in
     let a = c .before .total .ensures in
     let z = c .if1 .taken in
-    trial-refused _ _ (omega arith)
+    trial-answered (c .before .before .before .before .before .pre .book) (trial-refused _ _ (omega arith))
 
 slice-aggregate-largest : tie.Need-slice-aggregate-largest
 slice-aggregate-largest c = search needs
@@ -85,7 +85,8 @@ returns-2 c =
     let t = c .before .before .before in
     let l = at-lay (level (tried t)) .lay .ensures in
     let y = t .try-level .ensures _ (l .stands) (omega (arith, longest-by (tried t))) in
-    trial-passed _ _ (within (level (tried t))) (l .shown) y (c .before .before .if2 .taken) _ (c .front .ensures)
+    trial-answered (at-lay (level (tried t)) .before .pre .book)
+    (trial-passed _ _ (within (level (tried t))) (l .shown) y (c .before .before .if2 .taken) _ (c .front .ensures))
 
 members-of-requires : tie.Need-members-of-requires
 members-of-requires c κs = at-lay (level (tried (c .before))) .lay .ensures .stands .reads .few
@@ -96,7 +97,8 @@ returns-3 c =
     let l = at-lay (level (tried t)) .lay .ensures in
     let r = l .stands .reads in
     let y = t .try-level .ensures _ (l .stands) (omega (arith, longest-by (tried t))) in
-    trial-failed _ _ (within (level (tried t))) (l .shown) y (c .before .before .if2 .left) _ (r .machines) (r .few) _ _ (c .before .members-of .ensures)
+    trial-answered (at-lay (level (tried t)) .before .pre .book)
+    (trial-failed _ _ (within (level (tried t))) (l .shown) y (c .before .before .if2 .left) _ (r .machines) (r .few) _ _ (c .before .members-of .ensures))
 
 pub trial-spec : {M : Type 1} → statement M
 trial-spec =

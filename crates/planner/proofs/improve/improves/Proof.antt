@@ -1,5 +1,4 @@
 -- The invariant: the job would finish earlier on no machine passed.
--- Assumes nothing.
 use Prim.Native.Nat.{suc, _+_, _-_, _≤_}
 use mathlib.Core.Path.{_≡_, sym, _∙_}
 use mathlib.Core.Logic.{⊎-elim}

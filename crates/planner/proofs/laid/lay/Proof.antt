@@ -1,10 +1,9 @@
 -- The arrays say the instance of the sheet's book, its places and their loads.
--- Assumes nothing.
 use native.Mathlib.Omega.{arith}
 use borrow.Author.Needs.{needs}
-use Rattle.sheet.proofs.Shown.{view-instruments, view-batches, view-permitted}
-use Rattle.planner.proofs.Stands.{view-reads, view-place, permitted-at}
-use Rattle.planner.proofs.Shows.{stands}
+use Rattle.sheet.proofs.SoundViews.{view-instruments, view-batches, view-permitted}
+use Rattle.planner.proofs.SheetArrays.{view-reads, view-place, permitted-at}
+use Rattle.planner.proofs.TrialAnswers.{stands}
 use Rattle.planner.proofs.laid.lay.Statement.{statement}
 use Rattle.planner.proofs.laid.lay.Tie as tie
 

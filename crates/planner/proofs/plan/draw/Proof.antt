@@ -1,10 +1,9 @@
 -- The figures of the search, of settling after it, and of the group.
--- Assumes nothing.
 use lib.ListN.{length, take}
 use mathlib.Core.Path.{_≡_, _∙_}
 use native.Mathlib.Omega.{arith}
 use Rattle.theory.proofs.Small.{longest-small, makespan-small}
-use Rattle.planner.proofs.Shows.{longest-is}
+use Rattle.planner.proofs.TrialAnswers.{longest-is}
 use Rattle.planner.proofs.Drawing.{makespan-is, sought-placing, sought-known, drawn}
 use borrow.Author.Needs.{needs}
 use Rattle.planner.proofs.plan.draw.Statement.{statement}

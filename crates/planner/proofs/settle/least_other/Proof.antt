@@ -1,5 +1,4 @@
 -- The invariant: the machine so far is the least of those passed.
--- Assumes nothing.
 use Prim.Native.Nat.{ℕ, _≤_, _-_}
 use mathlib.Core.Path.{_≡_, refl, sym, ap, _∙_}
 use mathlib.Core.Bool.{Bool}

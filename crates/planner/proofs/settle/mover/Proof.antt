@@ -1,5 +1,4 @@
 -- The invariant: the job so far is the longest of those passed that improve.
--- Assumes nothing.
 use Prim.Native.Nat.{ℕ, _≤_, _-_}
 use mathlib.Core.Path.{_≡_, refl, sym, ap, _∙_}
 use mathlib.Core.Logic.{⊎-elim}

@@ -1,5 +1,4 @@
 -- One move of the rules over arrays.
--- Assumes nothing.
 use Prim.Native.Nat.{_-_}
 use native.Mathlib.Omega.{arith}
 use lib.ListN.{getD}

@@ -1,5 +1,4 @@
 -- The invariant: the moves that are left from here end where all moves from the start do. The measure is the sum of squared loads.
--- Assumes nothing.
 use Prim.Native.Nat.{suc, _*_, _-_}
 use mathlib.Core.Path.{_≡_, sym}
 use native.Mathlib.Omega.{arith}

@@ -1,7 +1,6 @@
 -- `probe::content::write` is safe: a sound sheet has at most 200 batches.
--- Assumes nothing.
 use native.Mathlib.Omega.{arith}
-use Rattle.sheet.proofs.Shown.{view-batches}
+use Rattle.sheet.proofs.SoundViews.{view-batches}
 use borrow.Author.Needs.{needs}
 use Rattle.probe.proofs.content.write.Statement.{statement}
 use Rattle.probe.proofs.content.write.Tie as tie

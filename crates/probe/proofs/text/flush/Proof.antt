@@ -1,5 +1,4 @@
 -- `probe::text::flush` is safe: the part that is written lies within the buffer.
--- Assumes nothing.
 use mathlib.Core.Path.{sym}
 use lib.Seq.{length-take-le}
 use native.Mathlib.Omega.{arith}

@@ -1,9 +1,9 @@
 -- `Sheet::add` meets its contract.
--- Assumes nothing.
 use native.Mathlib.Omega.{arith}
 use borrow.Author.Needs.{needs}
+use Rattle.sheet.proofs.Answered.{edit-answered}
 use Rattle.sheet.proofs.Scan.{failed, passed}
-use Rattle.sheet.proofs.Held.{in-range, row-fits}
+use Rattle.sheet.proofs.SoundArrays.{in-range, row-fits}
 use Rattle.sheet.proofs.Edits.{add-full, add-length, add-bad, add-done}
 use Rattle.sheet.proofs.Sheet.add.Statement.{statement}
 use Rattle.sheet.proofs.Sheet.add.Tie as tie
@@ -11,7 +11,7 @@ use Rattle.sheet.proofs.Sheet.add.Tie as tie
 returns : tie.Need-returns
 returns c =
     let s = c .before .before in
-    add-full (s .args .self) (s .pre) (s .args .minutes) (s .args .list .now) (omega (arith, c .if1 .taken))
+    edit-answered (add-full (s .args .self) (s .pre) (s .args .minutes) (s .args .list .now) (omega (arith, c .if1 .taken)))
 
 within-requires : tie.Need-within-requires
 within-requires c κs = search needs
@@ -19,8 +19,8 @@ within-requires c κs = search needs
 returns-2 : tie.Need-returns-2
 returns-2 c =
     let s = c .before .before .before .before in
-    add-length (s .args .self) (s .pre) (s .args .minutes) (s .args .list .now) (c .before .before .if1 .left)
-    (failed (c .before .within .ensures) (c .if2 .taken))
+    edit-answered (add-length (s .args .self) (s .pre) (s .args .minutes) (s .args .list .now) (c .before .before .if1 .left)
+    (failed (c .before .within .ensures) (c .if2 .taken)))
 
 good-list-requires : tie.Need-good-list-requires
 good-list-requires c κs = search needs
@@ -29,8 +29,8 @@ returns-3 : tie.Need-returns-3
 returns-3 c =
     let s = c .before .before .before .before .before .before in
     let t = passed (c .before .before .before .within .ensures) (c .before .before .if2 .left) in
-    add-bad (s .args .self) (s .pre) (s .args .minutes) (s .args .list .now)
-    (c .before .before .before .before .if1 .left) t (failed (c .before .good-list .ensures) (c .if3 .taken))
+    edit-answered (add-bad (s .args .self) (s .pre) (s .args .minutes) (s .args .list .now)
+    (c .before .before .before .before .if1 .left) t (failed (c .before .good-list .ensures) (c .if3 .taken)))
 
 row-of-requires : tie.Need-row-of-requires
 row-of-requires c κs =
@@ -62,9 +62,9 @@ returns-4 c =
     let t = passed (c .before .before .before .before .before .within .ensures)
     (c .before .before .before .before .if2 .left) in
     let g = passed (c .before .before .before .good-list .ensures) (c .before .before .if3 .left) in
-    add-done (s .args .self) (s .pre) (s .args .minutes) (s .args .list .now) (c .before .row-of .result)
+    edit-answered (add-done (s .args .self) (s .pre) (s .args .minutes) (s .args .list .now) (c .before .row-of .result)
     (c .appended .result) (c .before .before .before .before .before .before .if1 .left) t g
-    (c .before .row-of .ensures) (c .appended .ensures)
+    (c .before .row-of .ensures) (c .appended .ensures))
 
 pub add-spec : {M : Type 1} → statement M
 add-spec =

@@ -1,7 +1,6 @@
 -- `Sheet::batches` meets its contract.
--- Assumes nothing.
 use mathlib.Core.Path.{sym}
-use Rattle.sheet.proofs.Shown.{view-size}
+use Rattle.sheet.proofs.SoundViews.{view-size}
 use Rattle.sheet.proofs.Sheet.batches.Statement.{statement}
 use Rattle.sheet.proofs.Sheet.batches.Tie as tie
 

@@ -1,11 +1,10 @@
 -- `Sheet::eligibility` meets its contract: after i turns the rows of the first i batches are marked.
--- Assumes nothing.
 use Prim.Native.Nat.{_-_}
 use mathlib.Core.Path.{_≡_}
 use native.Mathlib.Omega.{arith}
 use lib.ListN.{length}
 use borrow.Author.Needs.{needs}
-use Rattle.sheet.proofs.Held.{few-batches, short-list}
+use Rattle.sheet.proofs.SoundArrays.{few-batches, short-list}
 use Rattle.sheet.proofs.Marks.{Rows, rows-start, rows-next, rows-step, rows-end, entry-range}
 use Rattle.sheet.proofs.Sheet.eligibility.Statement.{statement}
 use Rattle.sheet.proofs.Sheet.eligibility.Tie as tie

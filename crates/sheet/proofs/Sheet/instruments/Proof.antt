@@ -1,7 +1,6 @@
 -- `Sheet::instruments` meets its contract.
--- Assumes nothing.
 use mathlib.Core.Path.{sym}
-use Rattle.sheet.proofs.Held.{book-m}
+use Rattle.sheet.proofs.SoundArrays.{book-m}
 use Rattle.sheet.proofs.Sheet.instruments.Statement.{statement}
 use Rattle.sheet.proofs.Sheet.instruments.Tie as tie
 

@@ -1,6 +1,5 @@
 -- `Sheet::minutes` meets its contract.
--- Assumes nothing.
-use Rattle.sheet.proofs.Shown.{view-minutes}
+use Rattle.sheet.proofs.SoundViews.{view-minutes}
 use Rattle.sheet.proofs.Sheet.minutes.Statement.{statement}
 use Rattle.sheet.proofs.Sheet.minutes.Tie as tie
 

@@ -1,11 +1,11 @@
 -- `Sheet::move_to` meets its contract.
--- Assumes nothing.
 use native.Mathlib.Omega.{arith}
 use mathlib.Core.Path.{_≡_}
 use borrow.Author.Needs.{needs}
 use lib.ListN.{length}
+use Rattle.sheet.proofs.Answered.{edit-answered}
 use Rattle.sheet.proofs.Scan.{failed, passed}
-use Rattle.sheet.proofs.Held.{index, short-list, small-place}
+use Rattle.sheet.proofs.SoundArrays.{index, short-list, small-place}
 use Rattle.sheet.proofs.Edits.{move-none, move-strange, move-done}
 use Rattle.sheet.proofs.Sheet.move_to.Statement.{statement}
 use Rattle.sheet.proofs.Sheet.move_to.Tie as tie
@@ -16,7 +16,7 @@ within-requires c κs = search needs
 returns : tie.Need-returns
 returns c =
     let s = c .before .before in
-    move-none (s .args .t1) (s .pre) (s .args .batch) (s .args .instrument) (failed (c .before .within .ensures) (c .if1 .taken))
+    edit-answered (move-none (s .args .t1) (s .pre) (s .args .batch) (s .args .instrument) (failed (c .before .within .ensures) (c .if1 .taken)))
 
 sub-at : tie.Need-sub-at
 sub-at c =
@@ -51,7 +51,7 @@ returns-2 : tie.Need-returns-2
 returns-2 c =
     let s = c .before .before .before .before .before .before .before in
     let n = passed (c .before .before .before .before .before .before .within .ensures) (c .before .before .before .before .before .if1 .left) in
-    move-strange (s .args .t1) (s .pre) (s .args .batch) (s .args .instrument) n (failed (c .before .listed .ensures) (c .if2 .taken))
+    edit-answered (move-strange (s .args .t1) (s .pre) (s .args .batch) (s .args .instrument) n (failed (c .before .listed .ensures) (c .if2 .taken)))
 
 cast-self : tie.Need-cast-self
 cast-self c =
@@ -69,7 +69,7 @@ returns-3 : tie.Need-returns-3
 returns-3 c =
     let s = c .before .before .before .before .before .before .before in
     let n = passed (c .before .before .before .before .before .before .within .ensures) (c .before .before .before .before .before .if1 .left) in
-    move-done (s .args .t1) (s .pre) (s .args .batch) (s .args .instrument) n (passed (c .before .listed .ensures) (c .if2 .left))
+    edit-answered (move-done (s .args .t1) (s .pre) (s .args .batch) (s .args .instrument) n (passed (c .before .listed .ensures) (c .if2 .left)))
 
 pub move-to-spec : {M : Type 1} → statement M
 move-to-spec =

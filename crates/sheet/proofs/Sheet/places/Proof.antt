@@ -1,6 +1,5 @@
 -- `Sheet::places` meets its contract.
--- Assumes nothing.
-use Rattle.sheet.proofs.Shown.{view-places}
+use Rattle.sheet.proofs.SoundViews.{view-places}
 use Rattle.sheet.proofs.Sheet.places.Statement.{statement}
 use Rattle.sheet.proofs.Sheet.places.Tie as tie
 

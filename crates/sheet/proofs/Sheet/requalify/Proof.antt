@@ -1,9 +1,9 @@
 -- `Sheet::requalify` meets its contract.
--- Assumes nothing.
 use native.Mathlib.Omega.{arith}
 use borrow.Author.Needs.{needs}
+use Rattle.sheet.proofs.Answered.{edit-answered}
 use Rattle.sheet.proofs.Scan.{failed, passed}
-use Rattle.sheet.proofs.Held.{index, good-long, row-fits}
+use Rattle.sheet.proofs.SoundArrays.{index, good-long, row-fits}
 use Rattle.sheet.proofs.Edits.{requalify-none, requalify-bad, requalify-done}
 use Rattle.sheet.proofs.Sheet.requalify.Statement.{statement}
 use Rattle.sheet.proofs.Sheet.requalify.Tie as tie
@@ -14,8 +14,8 @@ within-requires c κs = search needs
 returns : tie.Need-returns
 returns c =
     let s = c .before .before .before in
-    requalify-none (s .args .t1) (s .pre) (s .args .batch) (s .args .list .now) (failed (c .before .within .ensures)
-    (c .if1 .taken))
+    edit-answered (requalify-none (s .args .t1) (s .pre) (s .args .batch) (s .args .list .now) (failed (c .before .within .ensures)
+    (c .if1 .taken)))
 
 good-list-requires : tie.Need-good-list-requires
 good-list-requires c κs = search needs
@@ -24,8 +24,8 @@ returns-2 : tie.Need-returns-2
 returns-2 c =
     let s = c .before .before .before .before .before in
     let n = passed (c .before .before .before .within .ensures) (c .before .before .if1 .left) in
-    requalify-bad (s .args .t1) (s .pre) (s .args .batch) (s .args .list .now) n (failed
-    (c .before .good-list .ensures) (c .if2 .taken))
+    edit-answered (requalify-bad (s .args .t1) (s .pre) (s .args .batch) (s .args .list .now) n (failed
+    (c .before .good-list .ensures) (c .if2 .taken)))
 
 row-of-requires : tie.Need-row-of-requires
 row-of-requires c κs =
@@ -72,9 +72,9 @@ returns-3 c =
     (c .before .before .before .before .before .before .if1 .left) in
     let g = passed (c .before .before .before .before .before .good-list .ensures)
     (c .before .before .before .before .if2 .left) in
-    requalify-done (s .args .t1) (s .pre) (s .args .batch) (s .args .list .now) (c .before .kept-place .result)
+    edit-answered (requalify-done (s .args .t1) (s .pre) (s .args .batch) (s .args .list .now) (c .before .kept-place .result)
     (c .before .before .before .row-of .result) (c .requalified .result) n g
-    (c .before .kept-place .ensures) (c .before .before .before .row-of .ensures) (c .requalified .ensures)
+    (c .before .kept-place .ensures) (c .before .before .before .row-of .ensures) (c .requalified .ensures))
 
 pub requalify-spec : {M : Type 1} → statement M
 requalify-spec =

@@ -1,9 +1,8 @@
 -- `Sheet::with_places` meets its contract.
--- Assumes nothing.
 use mathlib.Core.Path.{_≡_, ap, _∙_}
 use native.Mathlib.Omega.{arith}
 use lib.ListN.{length}
-use Rattle.sheet.proofs.Held.{few-batches}
+use Rattle.sheet.proofs.SoundArrays.{few-batches}
 use Rattle.sheet.proofs.Placed.{placing, with-places-law}
 use borrow.Author.Needs.{needs}
 use Rattle.sheet.proofs.Sheet.with_places.Statement.{statement}
@@ -20,13 +19,13 @@ enter-part-requires c κs =
     let a = c .before .before .before .args in
     let p : length (a .self .places) ≡ 200 = search needs in
     let q : length (a .t2) ≡ 200 = search needs in
-    let h = few-batches (a .self) (c .before .before .before .pre) in
+    let h = few-batches (a .self) (c .before .before .before .pre .0) in
     (omega arith, omega arith)
 
 returns : tie.Need-returns
 returns c =
     let a = c .before .before .before .before .before .args in
-    let v = c .before .before .before .before .before .pre in
+    let v = c .before .before .before .before .before .pre .0 in
     let q : length (a .t2) ≡ 200 = search needs in
     let h = few-batches (a .self) v in
     ap (placing (a .self)) (c .before .enter-part .ensures) ∙ with-places-law (a .self) (a .t2) v (omega arith)

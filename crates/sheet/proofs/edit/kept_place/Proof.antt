@@ -1,5 +1,4 @@
 -- `kept_place` meets its contract.
--- Assumes nothing.
 use mathlib.Core.Path.{sym, _∙_}
 use Rattle.rules.specs.Edit.{kept}
 use borrow.Author.Needs.{needs}

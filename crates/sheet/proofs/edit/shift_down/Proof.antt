@@ -1,5 +1,4 @@
 -- `shift_down` meets its contract: the entries below i are moved.
--- Assumes nothing.
 use Prim.Native.Nat.{_-_}
 use mathlib.Core.Logic.{⊎-elim}
 use native.Mathlib.Omega.{arith}

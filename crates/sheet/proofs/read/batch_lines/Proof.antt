@@ -6,8 +6,8 @@ use borrow.Author.Needs.{needs}
 use mathlib.Core.List.{List}
 use lib.ListN.{length}
 use Rattle.sheet.specs.declared.Refusal.the-variants.{Nothing}
-use Rattle.sheet.proofs.Given.{LineGiven, line-given, some-refusal}
-use Rattle.sheet.proofs.Sofar.{held, Sofar, none-yet, lists-long, one-more, then-refused, left-over, all-read}
+use Rattle.sheet.proofs.PartsRead.{LineGiven, line-given, some-refusal}
+use Rattle.sheet.proofs.BatchesRead.{held, Sofar, none-yet, lists-long, one-more, then-refused, left-over, all-read}
 use Rattle.sheet.proofs.read.batch_lines.Statement.{statement}
 use Rattle.sheet.proofs.read.batch_lines.Tie as tie
 use Rattle.sheet.proofs.read.batch_lines.Reads as reads

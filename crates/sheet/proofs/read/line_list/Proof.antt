@@ -2,7 +2,7 @@
 use mathlib.Core.Path.{_∙_}
 use native.Mathlib.Omega.{arith}
 use borrow.Author.Needs.{needs}
-use Rattle.sheet.proofs.Given.{ListGiven, list-given, list-refused, some-refusal}
+use Rattle.sheet.proofs.PartsRead.{ListGiven, list-given, list-refused, some-refusal}
 use Rattle.sheet.proofs.read.line_list.Statement.{statement}
 use Rattle.sheet.proofs.read.line_list.Tie as tie
 

@@ -4,7 +4,8 @@ use native.Mathlib.Omega.{arith}
 use borrow.Author.Needs.{needs}
 use Rattle.rules.specs.Read.{read}
 use Rattle.sheet.specs.Answers.{readOf}
-use Rattle.sheet.proofs.Given.{HeadGiven, head-given, head-refused, some-refusal}
+use Rattle.sheet.proofs.Answered.{read-answered}
+use Rattle.sheet.proofs.PartsRead.{HeadGiven, head-given, head-refused, some-refusal}
 use Rattle.sheet.proofs.read.read.Statement.{statement}
 use Rattle.sheet.proofs.read.read.Tie as tie
 
@@ -23,16 +24,16 @@ refused-at-requires c κs = search needs
 
 returns : tie.Need-returns
 returns c =
-    c .refused-at .ensures
+    read-answered (c .refused-at .ensures
     ∙ head-refused (c .before .before .before .before .args .s .now) _ (c .before .before .head-line .ensures)
-    (some-refusal _ (c .before .match .keys2))
+    (some-refusal _ (c .before .match .keys2)))
 
 batch-lines-requires : tie.Need-batch-lines-requires
 batch-lines-requires c κs = let g = given c in (g .room, g .instruments, g .batches)
 
 returns-2 : tie.Need-returns-2
 unfolding readOf read
-returns-2 c = rw (given (c .before) .part) (c .batch-lines .ensures)
+returns-2 c = read-answered (rw (given (c .before) .part) (c .batch-lines .ensures))
 
 pub read-spec : {M : Type 1} → statement M
 read-spec =

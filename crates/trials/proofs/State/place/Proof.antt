@@ -1,5 +1,4 @@
 -- The next job that waits stands after the one that was placed.
--- Assumes nothing.
 use mathlib.Core.Path.{_≡_}
 use native.Mathlib.Omega.{arith}
 use lib.ListN.{length, length-set}

@@ -1,5 +1,4 @@
 -- By where the place is.
--- Assumes nothing.
 use mathlib.Core.Path.{sym, _∙_}
 use native.Mathlib.Omega.{arith}
 use Rattle.trials.proofs.Reaching.{among-none, among-past, among-in}

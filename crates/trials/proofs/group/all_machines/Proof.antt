@@ -1,5 +1,4 @@
 -- The ones of the power of two less one.
--- Assumes nothing.
 use Rattle.trials.proofs.Groups.{all-some, all-set}
 use borrow.Author.Needs.{needs}
 use Rattle.trials.proofs.group.all_machines.Statement.{statement}

@@ -1,5 +1,4 @@
 -- The larger of the longest length and the share, by which is larger.
--- Assumes nothing.
 use mathlib.Core.Path.{sym, _∙_}
 use Rattle.arrays.proofs.Search.{most-up, most-stay}
 use Rattle.trials.proofs.Within.{bound-none, bound-is}

@@ -1,5 +1,4 @@
 -- The invariant: the rounds left lead from here to the closure. A round that adds nothing has reached it.
--- Assumes nothing.
 use Prim.Native.Nat.{ℕ}
 use mathlib.Core.List.{List}
 use native.Mathlib.Omega.{arith}

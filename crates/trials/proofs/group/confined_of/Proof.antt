@@ -1,5 +1,4 @@
 -- The invariant: the sum over the jobs passed.
--- Assumes nothing.
 use Prim.Native.Nat.{suc, _≤_, _-_, _*_}
 use mathlib.Core.Path.{_≡_, refl, sym, _∙_}
 use mathlib.Core.Logic.{⊎-elim}

@@ -1,5 +1,4 @@
 -- By whether some machine is underloaded.
--- Assumes nothing.
 use mathlib.Core.Path.{sym, _∙_}
 use borrow.Author.Needs.{needs}
 use Rattle.trials.proofs.Groups.{group-some, group-all}

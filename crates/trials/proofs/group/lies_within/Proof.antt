@@ -1,5 +1,4 @@
 -- No machine of the set lies outside the group.
--- Assumes nothing.
 use native.Mathlib.Omega.{arith}
 use Rattle.trials.proofs.Within.{inside-word}
 use Rattle.trials.proofs.group.lies_within.Statement.{statement}

@@ -1,5 +1,4 @@
 -- The invariant: the array holds the machines of the set that are passed.
--- Assumes nothing.
 use Prim.Native.Nat.{_≤_, _-_}
 use mathlib.Core.Path.{_≡_, sym, _∙_}
 use mathlib.Core.Logic.{⊎-elim}
@@ -7,14 +6,14 @@ use native.Mathlib.Numerals.{add-one}
 use native.Mathlib.Omega.{arith}
 use Rattle.rules.specs.Fold.{thoseTo}
 use Rattle.arrays.specs.Sets.{has}
-use Rattle.trials.specs.Grouping.{Holds}
+use Rattle.trials.specs.Grouping.{HoldsList}
 use Rattle.trials.proofs.Groups.{holds-none, holds-in, holds-out}
 use borrow.Author.Needs.{needs}
 use Rattle.trials.proofs.group.members_of.Statement.{statement}
 use Rattle.trials.proofs.group.members_of.Tie as tie
 
 abbrev Inv-loop : tie.InvT-loop
-Inv-loop x m list₀ size₀ i₀ list size i = (i ≤ m) × (size ≤ i) × Holds (thoseTo i (λ k. has x k)) list size
+Inv-loop x m list₀ size₀ i₀ list size i = (i ≤ m) × (size ≤ i) × HoldsList (thoseTo i (λ k. has x k)) list size
 
 abbrev μ-loop : tie.MeasureT-loop
 μ-loop x m list₀ size₀ i₀ list size i = m - i

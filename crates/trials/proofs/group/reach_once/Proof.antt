@@ -1,5 +1,4 @@
 -- The invariant: `x` is `g` and what the jobs passed add.
--- Assumes nothing.
 use Prim.Native.Nat.{_≤_, _-_}
 use mathlib.Core.Path.{_≡_}
 use native.Mathlib.Numerals.{add-one}

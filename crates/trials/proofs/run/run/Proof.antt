@@ -1,5 +1,4 @@
 -- Steps until nothing acts: the counts grow with each, and stay within the bounds.
--- Assumes nothing.
 use lib.ListN.{take}
 use borrow.Author.Needs.{needs}
 use borrow.Author.Tests.{not-true, not-false}

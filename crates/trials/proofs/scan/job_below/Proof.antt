@@ -1,5 +1,4 @@
 -- No job passed is on the machine and just below that height.
--- Assumes nothing.
 use Prim.Native.Nat.{suc, _≤_, _-_}
 use mathlib.Core.Path.{_≡_, sym, _∙_}
 use mathlib.Core.Logic.{⊎-elim}

@@ -1,5 +1,4 @@
 -- The lowest job that waits is put on a machine, or lifted, by what the two searches find.
--- Assumes nothing.
 use Prim.Native.Nat.{ℕ, suc, _+_, _-_, _≤_}
 use mathlib.Core.Path.{_≡_, refl, sym, ap, _∙_}
 use native.Mathlib.Omega.{arith}

@@ -1,5 +1,4 @@
 -- A trial at the limits of its level, and what its end says.
--- Assumes nothing.
 use Prim.Native.Nat.{_+_, _≤_}
 use mathlib.Core.Path.{_≡_, sym, _∙_}
 use native.Mathlib.Omega.{arith}

@@ -1,5 +1,4 @@
 -- What a sound sheet's arrays hold: the limits, and each batch of its book.
--- Assumes nothing.
 use Prim.Native.Nat.{ℕ, zero, suc, _-_, _≤_, _<_}
 use mathlib.Core.Path.{_≡_, refl, sym, ap, _∙_}
 use mathlib.Core.Bool.{true}

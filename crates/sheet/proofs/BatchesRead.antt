@@ -1,5 +1,4 @@
 -- Between two batch lines: the batches so far are in the sheet, and what is left goes on from them as the rules do.
--- Assumes nothing.
 use Prim.Native.Nat.{ℕ, suc, _+_, _-_, _≤_, _<_}
 use mathlib.Core.Path.{_≡_, refl, sym, ap, _∙_}
 use mathlib.Core.Bool.{true}
@@ -21,7 +20,7 @@ use Rattle.sheet.specs.Answers.{readAs}
 use Rattle.sheet.specs.Lines.{lineAs, unread}
 use Rattle.sheet.proofs.Padded.{length-padded}
 use Rattle.sheet.proofs.Represent.{narrow, length-rows, append-law}
-use Rattle.sheet.proofs.Given.{LineGiven, line-refused}
+use Rattle.sheet.proofs.PartsRead.{LineGiven, line-refused}
 
 -- the book of the batches bs
 abbrev booked : ℕ → List Batch → Book

@@ -1,5 +1,4 @@
 -- A sound sheet's arrays: the instance that they say, its placement, and answers as the rules give them.
--- Assumes nothing.
 use Prim.Native.Nat.{ℕ, zero, suc, _+_, _-_, _*_, _≤_, _<_, _^_}
 use mathlib.Core.Path.{_≡_, refl, sym, ap, _∙_}
 use mathlib.Core.Bool.{Bool, true, false}
@@ -14,13 +13,12 @@ use Rattle.rules.specs.Fold.{_and_, pick, at}
 use Rattle.rules.specs.Instance.{Instance, Job, n, instance, places, eligible}
 use Rattle.rules.specs.Load.{review}
 use Rattle.theory.proofs.Valid.{Valid, Permitted}
-use Rattle.theory.proofs.Small.{Small}
 use Rattle.theory.proofs.Logic.{byTest}
 use Rattle.sheet.specs.declared.Sheet.{Sheet}
 use Rattle.sheet.specs.Represent.{padded, bookOf, Sound}
 use Rattle.sheet.specs.View.{marks}
 use Rattle.sheet.proofs.Padded.{set-append}
-use Rattle.sheet.proofs.Shown.{view-instruments, view-batches, view-valid, view-short, view-lists, view-taken, minutes-at, marks-at}
+use Rattle.sheet.proofs.SoundViews.{view-instruments, view-batches, view-valid, view-small, view-taken, minutes-at, marks-at}
 use Rattle.arrays.specs.Sets.{has, SetsOf}
 use Rattle.rules.specs.Sheet.{Book}
 use Rattle.arrays.specs.Reads.{Reads}
@@ -57,9 +55,6 @@ both I b i v =
     byTest (eligible I b i)
     (λ t. rw (le-leb i (I .m) (v .ranged b i t .1)) refl)
     (λ t. rw t (byTest (leb i (I .m)) (λ u. rw u refl) (λ u. rw u refl)))
-
-pub view-small : (s : Sheet) → Sound s → Small (instance (bookOf s))
-view-small s v = record { machines = view-instruments s v .1; jobs = view-batches s v; short = view-short s v; lists = view-lists s v }
 
 -- the arrays of a sound sheet, with its marks as sets
 module _ (s : Sheet) (v : Sound s) {m c : ℕ} {lengths flags sets : List ℕ}

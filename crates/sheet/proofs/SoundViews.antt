@@ -1,5 +1,4 @@
 -- What a sound sheet's instance and its arrays hold, for those who read them.
--- Assumes nothing.
 use Prim.Native.Nat.{ℕ, zero, suc, _+_, _-_, _*_, _≤_, _<_}
 use mathlib.Core.Path.{_≡_, refl, sym, ap, _∙_}
 use mathlib.Core.Bool.{true}
@@ -13,6 +12,7 @@ use Rattle.rules.specs.Fold.{pick, at, mem, sumTo}
 use Rattle.rules.specs.Sheet.{Book, noBatchHere, goodInstruments, goodMinutes, goodBatch}
 use Rattle.rules.specs.Instance.{Instance, Assignment, Job, noJob, n, jobOf, instance, places, minutesOf, listOf, eligible}
 use Rattle.rules.specs.Run.{withPlaces}
+use Rattle.theory.proofs.Small.{Small}
 use Rattle.theory.proofs.Logic.{byTest, and-left, and-right}
 use Rattle.theory.proofs.Member.{every-at}
 use Rattle.theory.proofs.Fold.{sumTo-bound}
@@ -23,7 +23,7 @@ use Rattle.sheet.specs.Represent.{padded, sheetOf, bookOf, Sound}
 use Rattle.sheet.specs.View.{marksOf, markRows, marks}
 use Rattle.sheet.proofs.Padded.{getD-zeros}
 use Rattle.sheet.proofs.Represent.{book-sheet, sheet-sound}
-use Rattle.sheet.proofs.Held.{book-size, good-long}
+use Rattle.sheet.proofs.SoundArrays.{book-size, good-long}
 use Rattle.sheet.proofs.Marking.{length-marks, mark-at}
 
 -- ---- the arrays
@@ -134,6 +134,9 @@ module _ (s : Sheet) (v : Sound s) where
   view-lists =
       let h = sumTo-bound (n (instance (bookOf s))) (λ b. length (listOf (instance (bookOf s)) b)) 24 list-short in
       omega (arith, view-batches)
+
+  pub view-small : Small (instance (bookOf s))
+  view-small = record { machines = view-instruments .1; jobs = view-batches; short = view-short; lists = view-lists }
 
   pub view-taken : take (n (instance (bookOf s))) (padded 200 (places (bookOf s))) ≡ places (bookOf s)
   view-taken =

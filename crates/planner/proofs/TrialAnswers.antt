@@ -1,5 +1,4 @@
 -- A trial of a sound sheet: what it starts from, and its answer as the rules give it.
--- Assumes nothing.
 use Prim.Native.Nat.{ℕ, _-_, _≤_, _<_}
 use mathlib.Core.Path.{_≡_, refl, sym, ap, _∙_}
 use mathlib.Core.Bool.{Bool, true, false}
@@ -21,7 +20,7 @@ use Rattle.sheet.specs.Represent.{padded}
 use Rattle.arrays.specs.Sets.{has}
 use Rattle.arrays.specs.Reads.{Reads}
 use Rattle.trials.specs.Attempt.{Standing, Tries}
-use Rattle.trials.specs.Grouping.{Holds}
+use Rattle.trials.specs.Grouping.{HoldsList}
 use Rattle.trials.proofs.Groups.{members-group}
 use Rattle.planner.specs.Calls.{trialOf, refusedTrial, triedAs}
 use Rattle.planner.proofs.Reviewing.{max-agree, added-loads}
@@ -63,7 +62,7 @@ module _ (k : Book) (a : ℕ) (h : a ≤ total (instance k)) where
         ap (λ (p : List ℕ). record { refusal = Nothing; passed = true; lifts = lifts; pushes = pushes; places = p; size = 0; group = replicate 24 0 }) o
         ∙ tried-is (ap (λ (p : List ℕ). trial (instance k) p a) (sym e) ∙ t .passes b)
 
-    pub trial-failed : pass ≡ false → (m : ℕ) → instance k .m ≡ m → m ≤ 24 → (list : List ℕ) (size : ℕ) → Holds (thoseTo m (λ i. has group i)) list size
+    pub trial-failed : pass ≡ false → (m : ℕ) → instance k .m ≡ m → m ≤ 24 → (list : List ℕ) (size : ℕ) → HoldsList (thoseTo m (λ i. has group i)) list size
         → record { refusal = Nothing; passed = false; lifts = lifts; pushes = pushes; places = replicate 200 0; size = size; group = list } ≡ trialOf k a
     trial-failed b m q u list size o =
         let g = members-group m group q u (t .isGroup) (t .isSet b) in
