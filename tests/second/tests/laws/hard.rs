@@ -11,7 +11,7 @@ fn steps(trial: &Trial) -> u32 {
 
 #[test]
 fn many_steps_within_the_bounds() {
-    for seed in 0..8 {
+    for seed in 0..24 {
         let sheet = gen::hard(seed);
         assert_eq!((sheet.instruments(), sheet.batches().len()), (24, 200));
         let tried = halving(&sheet);
