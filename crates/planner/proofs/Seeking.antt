@@ -35,6 +35,15 @@ pub less-left : (s : Search) (a : ℕ) (t : Attempt) → s .failed1 ≤ a → a 
     × (learned s a t .level - learned s a t .failed1 < s .level - s .failed1)
 less-left s a t p q = unless s a t (t .passed) refl p q
 
+-- and from the same start
+stays : (s : Search) (a : ℕ) (t : Attempt) (b : Bool) → t .passed ≡ b → (learned s a t .start ≡ s .start) × (learned s a t .standing ≡ s .standing)
+unfolding learned
+stays s a t true e = rw e (refl, refl)
+stays s a t false e = rw e (refl, refl)
+
+pub start-stays : (s : Search) (a : ℕ) (t : Attempt) → (learned s a t .start ≡ s .start) × (learned s a t .standing ≡ s .standing)
+start-stays s a t = stays s a t (t .passed) refl
+
 -- ---- the start
 
 those-none : (m : ℕ) → thoseTo m (λ i. false) ≡ []
@@ -47,7 +56,7 @@ none-in m h = those-ext m _ (λ i. false) (λ i l u. set-none .each i l (omega a
 
 module _ {I : Instance} {m c : ℕ} {lengths sets places loads : List ℕ} (st : Standing I m c lengths sets places loads) where
   pub seeking-first : (finish : ℕ) → finish ≡ makespan I (take c places)
-      → Seeking I m c (take c places) (record { failed1 = 0; group = 0; level = finish; places = places; loads = loads; lifts = 0; pushes = 0 })
+      → Seeking I m c (take c places) (record { failed1 = 0; group = 0; level = finish; places = places; loads = loads; lifts = 0; pushes = 0; start = places; standing = loads })
   unfolding B.balance
   seeking-first finish e = record {
     fuel = makespan I (take c places);
@@ -96,11 +105,15 @@ module _ {I : Instance} {m c : ℕ} {lengths sets places loads : List ℕ} (st :
       let q = ltb-true (s .failed1) (s .level) o in
       after s a t f h (omega arith) (omega arith) (rw (o, ← e) at g) k r (t .passed) refl
 
-  pub seeking-next : (s : Search) (a : ℕ) (t : Attempt) → opened s ≡ true → a ≡ (s .failed1 + s .level - 1) / 2
+  -- the trial starts where the search did
+  pub starts : (s : Search) → s .start ≡ places → s .standing ≡ loads → Standing I m c lengths sets (s .start) (s .standing)
+  starts s e f = rw (e, f) st
+
+  pub seeking-next : (s : Search) (a : ℕ) (t : Attempt) → opened s ≡ true → a ≡ (s .failed1 + s .level - 1) / 2 → s .start ≡ places
       → Seeking I m c (take c places) s
-      → Tries I (take c places) a c (t .places) (t .loads) (t .passed) (t .group) (t .lifts) (t .pushes)
+      → Tries I (take c (s .start)) a c (t .places) (t .loads) (t .passed) (t .group) (t .lifts) (t .pushes)
       → Seeking I m c (take c places) (learned s a t)
-  seeking-next s a t o e k r = from s a t (k .fuel) (k .enough) o e (k .same) k r
+  seeking-next s a t o e b k r = from s a t (k .fuel) (k .enough) o e (k .same) k (rw b at r)
 
   -- ---- the end
 

@@ -28,12 +28,12 @@ searchOf m c s = record {
 abbrev pub opened : Search → Bool
 opened s = ltb (s .failed1) (s .level)
 
--- a pass becomes the level kept, a failure the one known to fail
+-- a pass becomes the level kept, a failure the one known to fail; the start stays
 unfoldable pub learned : Search → ℕ → Attempt → Search
 learned s a t =
     pick (t .passed)
-    (record { failed1 = s .failed1; group = s .group; level = a; places = t .places; loads = t .loads; lifts = t .lifts; pushes = t .pushes })
-    (record { failed1 = a + 1; group = t .group; level = s .level; places = s .places; loads = s .loads; lifts = s .lifts; pushes = s .pushes })
+    (record { failed1 = s .failed1; group = s .group; level = a; places = t .places; loads = t .loads; lifts = t .lifts; pushes = t .pushes; start = s .start; standing = s .standing })
+    (record { failed1 = a + 1; group = t .group; level = s .level; places = s .places; loads = s .loads; lifts = s .lifts; pushes = s .pushes; start = s .start; standing = s .standing })
 
 -- the end of the search from x, its group as a set, and the loads of the places kept
 pub record Sought (I : Instance) (m c : ℕ) (x : Assignment) (s : Search) : Type 0 where

@@ -12,7 +12,7 @@ use trials::trial::Attempt;
 use trials::trial::try_level;
 
 // The level of the places kept, with their loads and counts, and one more than the highest level known to fail, with its group as a
-// set; 0 and no machine while none has failed.
+// set; 0 and no machine while none has failed. Beside them the places from which every trial starts, and their loads.
 pub struct Search {
     pub failed1: u32,
     pub group: u32,
@@ -21,6 +21,8 @@ pub struct Search {
     pub loads: [u32; MACHINES],
     pub lifts: u32,
     pub pushes: u32,
+    pub start: [u8; JOBS],
+    pub standing: [u32; MACHINES],
 }
 
 // What a trial at level a adds.
@@ -29,6 +31,8 @@ fn learn(s: Search, a: u32, t: Attempt) -> Search
     ensures { λ r. ⌜ r ≡ learned s a t ⌝ }
 {
     if t.passed {
+        let start = s.start;
+        let standing = s.standing;
         let places = t.places;
         let loads = t.loads;
         return Search {
@@ -39,8 +43,12 @@ fn learn(s: Search, a: u32, t: Attempt) -> Search
             loads,
             lifts: t.lifts,
             pushes: t.pushes,
+            start,
+            standing,
         };
     }
+    let start = s.start;
+    let standing = s.standing;
     let places = s.places;
     let loads = s.loads;
     Search {
@@ -51,6 +59,8 @@ fn learn(s: Search, a: u32, t: Attempt) -> Search
         loads,
         lifts: s.lifts,
         pushes: s.pushes,
+        start,
+        standing,
     }
 }
 
@@ -78,10 +88,14 @@ pub fn balance(
         loads,
         lifts: 0,
         pushes: 0,
+        start: places,
+        standing: loads,
     };
     while s.failed1 < s.level {
         let a = (s.failed1 + s.level - 1) / 2;
-        let t = try_level(places, loads, minutes, masks, m, n, a, a + most);
+        let from = s.start;
+        let held = s.standing;
+        let t = try_level(from, held, minutes, masks, m, n, a, a + most);
         s = learn(s, a, t);
     }
     s

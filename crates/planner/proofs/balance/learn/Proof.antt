@@ -7,14 +7,14 @@ use Rattle.planner.proofs.balance.learn.Tie as tie
 
 returns : tie.Need-returns
 unfolding learned
-returns c = rw (c .before .before .if1 .taken) refl
+returns c = rw (c .before .before .before .before .if1 .taken) refl
 
-add-t9 : tie.Need-add-t9
-add-t9 c = search needs
+add-t13 : tie.Need-add-t13
+add-t13 c = search needs
 
 returns-2 : tie.Need-returns-2
 unfolding learned
-returns-2 c = rw (c .before .before .if1 .left) refl
+returns-2 c = rw (c .before .before .before .before .if1 .left) refl
 
 pub learn-spec : {M : Type 1} → statement M
-learn-spec = tie.close (tie.spec returns add-t9 returns-2)
+learn-spec = tie.close (tie.spec returns add-t13 returns-2)
