@@ -4,7 +4,7 @@ pub mod Filling
 pub mod Kept
 pub mod Loads
 pub mod Masks
-pub mod Search
+pub mod Members
 pub mod Take
 pub mod Turns
 pub mod Words

@@ -8,9 +8,8 @@ use native.Mathlib.Decide.{ℕ-discrete}
 use lib.Dec.{eqb, leb}
 use borrow.Author.Tests.{eq-eqb, ne-eqb, le-leb, lt-leb, leb-true, leb-false}
 use Rattle.rules.specs.Fold.{_and_, _or_}
-use Rattle.theory.proofs.Logic.{byTest, or-skip, or-left}
+use Rattle.theory.proofs.Logic.{byTest, or-skip, or-left, and-no-left, and-no-right}
 use Rattle.arrays.specs.Sets.{has, SetOf}
-use Rattle.arrays.proofs.Search.{and-no-left, and-no-right}
 use Rattle.arrays.proofs.Words.{set-none}
 
 -- a set by one test is the set by any that agrees

@@ -1,26 +1,9 @@
-// Sums and greatest entries over machines and jobs, on lent arrays.
+// The loads of machines, and the most of them, on lent arrays.
 ghost use mathlib.Core.Path.{_≡_};
 ghost use Prim.Native.Nat.{ℕ, _<_, _≤_};
 ghost use lib.ListN.{length};
 ghost use lib.Dec.{eqb};
 ghost use Rattle.rules.specs.Fold.{pick, at, maxTo, sumTo};
-
-// The most minutes of a job.
-pub fn largest(minutes: &[u16], n: usize) -> u32
-    requires { ⌜ n ≤ length (now minutes) ⌝ }
-    ensures { λ r. ⌜ r ≡ maxTo n (λ b. at (now (minutes .entry)) b) ⌝ }
-{
-    let mut most: u32 = 0;
-    let mut b: usize = 0;
-    while b < n {
-        let x = minutes[b] as u32;
-        if most < x {
-            most = x;
-        }
-        b += 1;
-    }
-    most
-}
 
 // The most load of a machine.
 pub fn largest_load(loads: &[u32], m: usize) -> u32
@@ -37,20 +20,6 @@ pub fn largest_load(loads: &[u32], m: usize) -> u32
         i += 1;
     }
     most
-}
-
-// The minutes of all jobs.
-pub fn total(minutes: &[u16], n: usize) -> u32
-    requires { ⌜ (n ≤ 200) × (n ≤ length (now minutes)) ⌝ }
-    ensures { λ r. ⌜ r ≡ sumTo n (λ b. at (now (minutes .entry)) b) ⌝ }
-{
-    let mut sum: u32 = 0;
-    let mut b: usize = 0;
-    while b < n {
-        sum += minutes[b] as u32;
-        b += 1;
-    }
-    sum
 }
 
 // The load of each machine: entry i for machine i, 0 past machine `m`.

@@ -14,6 +14,7 @@ use Rattle.rules.specs.Balance as B
 use Rattle.rules.specs.Plan as P
 use Rattle.rules.specs.Sheet.{Book}
 use Rattle.rules.specs.Run.{withPlaces}
+use Rattle.theory.proofs.Fold.{maxTo-ext}
 use Rattle.theory.proofs.Valid.{Permitted}
 use Rattle.theory.proofs.Planning.{plan-permitted}
 use Rattle.sheet.specs.declared.Sheet.{Sheet}
@@ -29,14 +30,13 @@ use Rattle.planner.specs.Settling.{Known, Placing, SettledTo}
 use Rattle.planner.specs.Search.{Sought}
 use Rattle.planner.specs.Drawing.{Draws}
 use Rattle.planner.specs.Calls.{planOf}
-use Rattle.planner.proofs.Reviewing.{max-agree}
 
 -- the greatest load of loads kept beside places
 greatest-is : {I : Instance} {m c : ℕ} {lengths sets loads : List ℕ} (places : List ℕ) → Reads I m c lengths sets
     → ((i : ℕ) → 0 < i → i ≤ m → at loads i ≡ load I (take c places) i) → maxTo m (λ i. at loads i) ≡ makespan I (take c places)
 unfolding makespan
 greatest-is {I} {m} {c} places r h =
-    max-agree m _ _ h ∙ ap (λ (k : ℕ). maxTo k (λ i. load I (take c places) i)) (sym (r .machines))
+    maxTo-ext m _ _ h ∙ ap (λ (k : ℕ). maxTo k (λ i. load I (take c places) i)) (sym (r .machines))
 
 module _ {I : Instance} {m c : ℕ} {lengths sets places loads : List ℕ} (st : Standing I m c lengths sets places loads) where
   pub makespan-is : maxTo m (λ i. at loads i) ≡ makespan I (take c places)

@@ -10,7 +10,7 @@ use lib.Dec.{eqb}
 use Rattle.rules.specs.Fold.{pick, at, sumTo, maxTo, firstTo, listTo}
 use Rattle.rules.specs.Instance.{Instance, minutesOf}
 use Rattle.rules.specs.Load.{load, makespan, improves, review}
-use Rattle.theory.proofs.Fold.{sumTo-ext}
+use Rattle.theory.proofs.Fold.{sumTo-ext, maxTo-ext}
 use Rattle.arrays.specs.Reads.{Reads}
 use Rattle.planner.specs.Settling.{Placing, ReviewIs}
 use Rattle.arrays.proofs.Take.{at-take}
@@ -21,12 +21,6 @@ unfolding listTo
 take-list zero l f u h = refl
 take-list (suc k) l f u h =
     rw (take-suc l k 0, take-list k l f (omega arith) (λ i l u. h i l (omega arith)), h (suc k) (omega arith) (le-refl (suc k)))
-
-pub max-agree : (k : ℕ) (f g : ℕ → ℕ) → ((i : ℕ) → 0 < i → i ≤ k → f i ≡ g i) → maxTo k f ≡ maxTo k g
-unfolding maxTo
-max-agree zero f g h = refl
-max-agree (suc k) f g h =
-    rw (max-agree k f g (λ i l u. h i l (omega arith)), h (suc k) (omega arith) (le-refl (suc k)))
 
 module _ {I : Instance} {m c : ℕ} {lengths sets : List ℕ} (r : Reads I m c lengths sets) where
   -- loads that were added up over the places
@@ -44,6 +38,6 @@ module _ {I : Instance} {m c : ℕ} {lengths sets : List ℕ} (r : Reads I m c l
   unfolding review makespan
   review-is {places} {loads} greatest lowest p e f = record {
     each = take-list m loads (λ i. load I (take c places) i) (p .long) (p .each) ∙ ap (λ (k : ℕ). listTo k (λ i. load I (take c places) i)) (sym (r .machines));
-    greatest = e ∙ max-agree m _ _ (p .each) ∙ ap (λ (k : ℕ). maxTo k (λ i. load I (take c places) i)) (sym (r .machines));
+    greatest = e ∙ maxTo-ext m _ _ (p .each) ∙ ap (λ (k : ℕ). maxTo k (λ i. load I (take c places) i)) (sym (r .machines));
     lowest = f ∙ ap (λ (k : ℕ). firstTo k (λ b. improves I (take c places) b)) (sym (r .jobs));
   }

@@ -16,7 +16,8 @@ use Rattle.arrays.specs.Sets.{has}
 use Rattle.arrays.proofs.Words.{set-none}
 use Rattle.trials.specs.declared.trial.Attempt.{Attempt}
 use Rattle.trials.specs.Attempt.{Standing, Tries}
-use Rattle.trials.proofs.Groups.{those-ext, members-group, none-group}
+use Rattle.theory.proofs.Those.{those-ext}
+use Rattle.arrays.proofs.Members.{members-group, none-group}
 use Rattle.planner.specs.declared.balance.Search.{Search}
 use Rattle.planner.specs.Search.{searchOf, opened, learned, Sought, Seeking}
 

@@ -21,20 +21,9 @@ use Rattle.arrays.specs.Sets.{has}
 use Rattle.arrays.specs.Reads.{Reads}
 use Rattle.trials.specs.Attempt.{Standing, Tries}
 use Rattle.trials.specs.Grouping.{HoldsList}
-use Rattle.trials.proofs.Groups.{members-group}
+use Rattle.arrays.proofs.Members.{members-group}
 use Rattle.planner.specs.Calls.{trialOf, refusedTrial, triedAs}
-use Rattle.planner.proofs.Reviewing.{max-agree, added-loads}
-
--- ---- minutes in all, and the longest
-
-module _ {I : Instance} {m c : ℕ} {lengths sets : List ℕ} (r : Reads I m c lengths sets) where
-  pub total-is : sumTo c (λ b. at lengths b) ≡ total I
-  unfolding total
-  total-is = sumTo-ext c _ _ (r .minutes) ∙ ap (λ (k : ℕ). sumTo k (λ b. minutesOf I b)) (sym (r .jobs))
-
-  pub longest-is : maxTo c (λ b. at lengths b) ≡ longest I
-  unfolding longest
-  longest-is = max-agree c _ _ (r .minutes) ∙ ap (λ (k : ℕ). maxTo k (λ b. minutesOf I b)) (sym (r .jobs))
+use Rattle.planner.proofs.Reviewing.{added-loads}
 
 -- ---- the start
 

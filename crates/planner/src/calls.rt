@@ -10,12 +10,12 @@ use crate::Tried;
 use crate::improve::first_improving;
 use crate::laid::lay;
 use crate::plan::draw;
-use arrays::scan::largest;
 use arrays::scan::largest_load;
-use arrays::scan::total;
 use sheet::Refusal;
 use sheet::Sheet;
+use trials::group::longest_of;
 use trials::group::members_of;
+use trials::group::total_of;
 use trials::trial::try_level;
 
 // The first n places, and zeros after them.
@@ -58,7 +58,8 @@ pub fn trial(sheet: Sheet, level: u32) -> Tried
 {
     let a = lay(sheet);
     let minutes = a.minutes;
-    if total(&minutes, a.n) < level {
+    let masks = a.masks;
+    if total_of(&minutes, &masks, a.n, a.m) < level {
         return Tried {
             refusal: Refusal::LevelAbove,
             passed: false,
@@ -69,10 +70,9 @@ pub fn trial(sheet: Sheet, level: u32) -> Tried
             group: [0u8; 24],
         };
     }
-    let masks = a.masks;
     let places = a.places;
     let loads = a.loads;
-    let limit = level + largest(&minutes, a.n);
+    let limit = level + longest_of(&minutes, &masks, a.n, a.m);
     let t = try_level(places, loads, &minutes, &masks, a.m, a.n, level, limit);
     if t.passed {
         let kept = t.places;

@@ -8,9 +8,9 @@ use crate::balance::balance;
 use crate::settle::settle;
 use arrays::JOBS;
 use arrays::MACHINES;
-use arrays::scan::largest;
 use arrays::scan::largest_load;
 use trials::group::bound_of;
+use trials::group::longest_of;
 use trials::group::members_of;
 
 // A plan's numbers, its group as a list with its size, and its places.
@@ -39,7 +39,7 @@ pub fn draw(
     requires { ⌜ (n ≤ length (now minutes)) × (n ≤ length (now masks)) ⌝ }
     ensures { λ r. ⌜ ((I : Instance) → Standing I m n (now (minutes .entry)) (now (masks .entry)) places loads → Draws I n (take n places) r) ⌝ }
 {
-    let most = largest(minutes, n);
+    let most = longest_of(minutes, masks, n, m);
     let highest = largest_load(&loads, m);
     let s = balance(places, loads, minutes, masks, m, n, most, highest);
     let kept = s.places;

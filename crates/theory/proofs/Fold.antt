@@ -9,7 +9,8 @@ use native.Mathlib.Omega.{arith}
 use native.Mathlib.Decide.{ℕ-discrete}
 use lib.ListN.{length, length-set}
 use lib.Seq.{getD-set-same, getD-set-other}
-use Rattle.rules.specs.Fold.{pick, at, put, sumTo}
+use borrow.Author.Tests.{lt-ltb, le-ltb}
+use Rattle.rules.specs.Fold.{pick, at, put, most, sumTo, maxTo}
 
 -- ---- at, put
 
@@ -130,3 +131,20 @@ sumTo-gain-by (suc k) f g b c p q h e =
           let r = sumTo-gain-by k f g b c p (omega arith) (λ i p q. h i p (omega arith)) e in
           omega (arith, h (suc k) (omega arith) (le-refl (suc k)))
     ]
+
+-- ---- maxTo
+
+-- the greater of a and x, by which is greater
+pub most-up : (a x : ℕ) → a < x → most a x ≡ x
+unfolding most
+most-up a x h = rw (lt-ltb a x h)
+
+pub most-stay : (a x : ℕ) → x ≤ a → most a x ≡ a
+unfolding most
+most-stay a x h = rw (le-ltb a x h)
+
+pub maxTo-ext : (k : ℕ) (f g : ℕ → ℕ) → ((i : ℕ) → 0 < i → i ≤ k → f i ≡ g i) → maxTo k f ≡ maxTo k g
+unfolding maxTo
+maxTo-ext zero f g h = refl
+maxTo-ext (suc k) f g h =
+    rw (maxTo-ext k f g (λ i l u. h i l (omega arith)), h (suc k) (omega arith) (le-refl (suc k)))

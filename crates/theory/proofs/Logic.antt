@@ -36,6 +36,15 @@ pub and-mk : (a b : Bool) → a ≡ true → b ≡ true → a and b ≡ true
 unfolding _and_
 and-mk a b p q = rw (p, q)
 
+pub and-no-left : (a b : Bool) → a ≡ false → a and b ≡ false
+unfolding _and_
+and-no-left a b e = rw e
+
+pub and-no-right : (a b : Bool) → b ≡ false → a and b ≡ false
+unfolding _and_
+and-no-right true b e = e
+and-no-right false b e = refl
+
 -- ---- or
 
 pub or-left : (a b : Bool) → a ≡ true → a or b ≡ true

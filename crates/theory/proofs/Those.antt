@@ -4,6 +4,7 @@ use mathlib.Core.Path.{_≡_, refl, sym, ap, _∙_}
 use mathlib.Core.Bool.{Bool, true, false}
 use mathlib.Core.Logic.{_≢_}
 use mathlib.Core.List.{[], _∷_}
+use native.Mathlib.Nat.{le-refl}
 use native.Mathlib.Omega.{arith}
 use native.Mathlib.Decide.{ℕ-discrete}
 use lib.ListN.{length, length-append}
@@ -59,3 +60,18 @@ those-length (suc m) p = length-append (thoseTo m p) _ ∙ (rw (those-length m p
     one : (t : Bool) → length (pick t (suc m ∷ []) []) ≡ pick t 1 0
     one true = refl
     one false = refl
+
+-- two tests that agree
+pub those-ext : (k : ℕ) (p q : ℕ → Bool) → ((i : ℕ) → 0 < i → i ≤ k → p i ≡ q i) → thoseTo k p ≡ thoseTo k q
+unfolding thoseTo
+those-ext zero p q h = refl
+those-ext (suc k) p q h = rw (those-ext k p q (λ i l u. h i l (omega arith)), h (suc k) (omega arith) (le-refl (suc k)))
+
+-- the list names those that pass, where none above k does
+pub those-all : (k : ℕ) (p : ℕ → Bool) → ((i : ℕ) → p i ≡ true → i ≤ k) → (i : ℕ) → 0 < i → mem i (thoseTo k p) ≡ p i
+those-all k p h i l =
+    byTest (p i)
+    (λ t. those-mem k p i l (h i t))
+    (λ t. byTest (mem i (thoseTo k p))
+    (λ e. let w = those-range k p i e in those-mem k p i l (w .1))
+    (λ e. e ∙ sym t))

@@ -23,40 +23,6 @@ use Rattle.arrays.proofs.Bits.{bit, bit-zero}
 use Rattle.arrays.proofs.Words.{has-bit, set-none}
 use Rattle.arrays.proofs.Masks.{set-same}
 
--- ---- the list of those that pass
-
-pub those-ext : (k : ℕ) (p q : ℕ → Bool) → ((i : ℕ) → 0 < i → i ≤ k → p i ≡ q i) → thoseTo k p ≡ thoseTo k q
-unfolding thoseTo
-those-ext zero p q h = refl
-those-ext (suc k) p q h = rw (those-ext k p q (λ i l u. h i l (omega arith)), h (suc k) (omega arith) (le-refl (suc k)))
-
--- the list names those that pass, where none above k does
-pub those-all : (k : ℕ) (p : ℕ → Bool) → ((i : ℕ) → p i ≡ true → i ≤ k) → (i : ℕ) → 0 < i → mem i (thoseTo k p) ≡ p i
-those-all k p h i l =
-    byTest (p i)
-    (λ t. those-mem k p i l (h i t))
-    (λ t. byTest (mem i (thoseTo k p))
-    (λ e. let w = those-range k p i e in those-mem k p i l (w .1))
-    (λ e. e ∙ sym t))
-
--- ---- a group is the list of its machines
-
-group-own : {I : Instance} {g : List ℕ} → IsGroup I g → thoseTo (I .m) (λ i. mem i g) ≡ g
-group-own {I} (those p) = those-ext (I .m) _ p (λ i l u. those-mem (I .m) p i l u)
-
--- and of those of the word that says it
-pub members-group : {I : Instance} {g : List ℕ} (m x : ℕ) → I .m ≡ m → m ≤ 24 → IsGroup I g → SetOf (λ i. mem i g) x
-    → thoseTo m (λ i. has x i) ≡ g
-members-group {I} {g} m x e f r s =
-    those-ext m _ (λ i. mem i g) (λ i l u. s .each i l (omega arith))
-    ∙ ap (λ (k : ℕ). thoseTo k (λ i. mem i g)) (sym e)
-    ∙ group-own r
-
--- two groups of one word
-pub groups-same : {I : Instance} {g h : List ℕ} (x : ℕ) → I .m ≤ 24 → IsGroup I g → IsGroup I h
-    → SetOf (λ i. mem i g) x → SetOf (λ i. mem i h) x → g ≡ h
-groups-same {I} x f r q s t = sym (members-group (I .m) x refl f r s) ∙ members-group (I .m) x refl f q t
-
 -- ---- all machines
 
 ones : (m k : ℕ) → bit (2 ^ m - 1) k ≡ leb (suc k) m
@@ -94,7 +60,7 @@ all-set m h = rw (all-word m h) record {
 }
 
 -- the list of all machines names exactly 1 to m
-all-mem : (m i : ℕ) → 0 < i → mem i (thoseTo m (λ j. true)) ≡ leb i m
+pub all-mem : (m i : ℕ) → 0 < i → mem i (thoseTo m (λ j. true)) ≡ leb i m
 all-mem m i i0 =
     byTest (leb i m)
     (λ t. those-mem m (λ j. true) i i0 (leb-true _ _ t) ∙ sym t)
@@ -108,10 +74,6 @@ module _ (I : Instance) (x : Assignment) (i : ℕ) {some : Bool} {r : ℕ} where
 
   pub group-all : {m : ℕ} → I .m ≡ m → some ≡ false → SetOf (λ j. leb j m) r → SetOf (λ j. mem j (groupBy I x i some)) r
   group-all f e s = rw (e, f) (set-same _ (λ j l u. sym (all-mem _ j l)) s)
-
--- the empty group
-pub none-group : SetOf (λ i. mem i []) 0
-none-group = set-same (λ i. mem i []) (λ i l u. sym (mem-none i)) set-none
 
 -- ---- the list, in an array of 24 with zeros after it
 

@@ -11,18 +11,18 @@ use borrow.Author.Tests.{eqb-true, ltb-true, leb-true, lt-ltb, le-leb}
 use Rattle.rules.specs.Fold.{_and_, _or_, pick, at, mem, anyTo, thoseTo}
 use Rattle.rules.specs.Instance.{Instance, Assignment, n, eligible}
 use Rattle.rules.specs.Group.{reach, reachBy, closure}
-use Rattle.theory.proofs.Logic.{byTest, and-left, and-right, or-cases, or-false, or-assoc}
+use Rattle.theory.proofs.Logic.{byTest, and-left, and-right, or-cases, or-false, or-assoc, and-no-left}
 use Rattle.theory.proofs.View.{Some, here, any-some}
 use Rattle.theory.proofs.Closure.{IsGroup, those, group-range, reach-group}
 use Rattle.arrays.specs.Sets.{has, SetOf}
 use Rattle.arrays.specs.Reads.{Reads}
 use Rattle.trials.specs.Grouping.{among}
 use Rattle.arrays.proofs.Take.{at-take}
-use Rattle.arrays.proofs.Search.{and-no-left}
 use Rattle.theory.proofs.Agree.{any-ext}
 use Rattle.arrays.proofs.Words.{has-or, set-zero}
 use Rattle.arrays.proofs.Masks.{set-same}
-use Rattle.trials.proofs.Groups.{those-all, groups-same}
+use Rattle.theory.proofs.Those.{those-all}
+use Rattle.arrays.proofs.Members.{groups-same}
 
 -- ---- what a job adds
 

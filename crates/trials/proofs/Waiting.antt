@@ -13,7 +13,7 @@ use Rattle.rules.specs.Instance.{Instance, n, eligible}
 use Rattle.rules.specs.Load.{elsewhere}
 use Rattle.rules.specs.Trial as T
 use Rattle.rules.specs.Trial.{Limits, can, jobDeed, jobArc, unplaced}
-use Rattle.theory.proofs.Logic.{byTest, conflict, and-left, and-right}
+use Rattle.theory.proofs.Logic.{byTest, conflict, and-left, and-right, and-no-left}
 use Rattle.theory.proofs.View.{None, none-more, Some, here, any-some, any-none}
 use Rattle.theory.proofs.Agree.{first-ext}
 use Rattle.theory.proofs.Fold.{at-put-same, at-put-other}
@@ -21,7 +21,6 @@ use Rattle.theory.proofs.Underloaded.{unplaced-can}
 use Rattle.theory.proofs.Acting.{placed-cannot, lone-cannot}
 use Rattle.arrays.specs.Reads.{Reads}
 use Rattle.arrays.specs.Sets.{has}
-use Rattle.arrays.proofs.Search.{and-no-left}
 use Rattle.arrays.proofs.Words.{set-zero, empty-zero}
 use Rattle.trials.specs.declared.State.{State}
 use Rattle.trials.specs.Moves.{waits}

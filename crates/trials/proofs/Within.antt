@@ -7,14 +7,14 @@ use native.Mathlib.Nat.{lt-of-le-of-lt}
 use native.Mathlib.Omega.{arith}
 use lib.Bits.{bitAnd, and-le-l}
 use lib.ListN.{length}
-use lib.Dec.{eqb}
-use borrow.Author.Tests.{eqb-true, eqb-false}
-use Rattle.rules.specs.Fold.{_and_, _or_, pick, at, mem, most, sumTo}
+use lib.Dec.{eqb, leb}
+use borrow.Author.Tests.{eqb-true, eqb-false, le-leb}
+use Rattle.rules.specs.Fold.{_and_, _or_, pick, at, mem, most, sumTo, maxTo, thoseTo}
 use Rattle.rules.specs.Instance.{Instance, minutesOf, listOf}
-use Rattle.rules.specs.Load.{longest}
+use Rattle.rules.specs.Load.{longest, total}
 use Rattle.rules.specs.LowerBound.{within, confined, ceilDiv, share, lowerBound}
 use Rattle.theory.proofs.Logic.{byTest, conflict, or-left, or-right, or-cases}
-use Rattle.theory.proofs.Fold.{sumTo-ext}
+use Rattle.theory.proofs.Fold.{sumTo-ext, maxTo-ext}
 use Rattle.theory.proofs.View.{all-at, all-mk}
 use Rattle.theory.proofs.Member.{every-mem, every-mk}
 use Rattle.arrays.specs.Sets.{has, SetOf}
@@ -22,6 +22,8 @@ use Rattle.arrays.specs.Reads.{Reads}
 use Rattle.trials.specs.Grouping.{inside}
 use Rattle.arrays.proofs.Bits.{bit-not}
 use Rattle.arrays.proofs.Words.{has-bit, has-and, set-zero, empty-zero}
+use Rattle.arrays.proofs.Masks.{set-same}
+use Rattle.trials.proofs.Groups.{all-mem}
 
 -- two tests that pass together
 same-test : (a b : Bool) → (a ≡ true → b ≡ true) → (b ≡ true → a ≡ true) → a ≡ b
@@ -89,6 +91,34 @@ module _ {I : Instance} {m c : ℕ} {lengths sets : List ℕ} (r : Reads I m c l
   confined-is =
       ap (λ (k : ℕ). sumTo k (λ b. pick (within (listOf I b) list) (minutesOf I b) 0)) (r .jobs)
       ∙ sumTo-ext c _ _ (λ b p q. sym (rw (inside-within b p q, r .minutes b p q)))
+
+-- ---- all machines: every job's lie within them
+
+module _ {I : Instance} {m c : ℕ} {lengths sets : List ℕ} (r : Reads I m c lengths sets) (all : ℕ) (s : SetOf (λ i. leb i m) all) where
+  pub set-all : SetOf (λ i. mem i (thoseTo m (λ j. true))) all
+  set-all = set-same _ (λ i l u. sym (all-mem m i l)) s
+
+  inside-all : (b : ℕ) → 0 < b → b ≤ c → inside (at sets b) all ≡ true
+  unfolding within
+  inside-all b p q =
+      inside-within r (thoseTo m (λ j. true)) all set-all b p q
+      ∙ every-mk (λ i. mem i (thoseTo m (λ j. true))) (listOf I b) (λ i e.
+      let w = r .valid .ranged b i e in
+      all-mem m i (w .0) ∙ le-leb i m (omega (arith, r .machines)))
+
+  minutes-all : (b : ℕ) → 0 < b → b ≤ c → pick (inside (at sets b) all) (at lengths b) 0 ≡ minutesOf I b
+  minutes-all b p q = rw (inside-all b p q) (r .minutes b p q)
+
+  pub total-all : confined I (thoseTo m (λ j. true)) ≡ total I
+  unfolding total
+  total-all =
+      confined-is r (thoseTo m (λ j. true)) all set-all
+      ∙ sumTo-ext c _ _ minutes-all
+      ∙ ap (λ (k : ℕ). sumTo k (λ b. minutesOf I b)) (sym (r .jobs))
+
+  pub longest-all : maxTo c (λ b. pick (inside (at sets b) all) (at lengths b) 0) ≡ longest I
+  unfolding longest
+  longest-all = maxTo-ext c _ _ minutes-all ∙ ap (λ (k : ℕ). maxTo k (λ b. minutesOf I b)) (sym (r .jobs))
 
 -- ---- the bound
 

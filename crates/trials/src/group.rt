@@ -4,7 +4,7 @@ ghost use mathlib.Core.List.{List};
 ghost use Prim.Native.Nat.{ℕ, _+_, _<_, _≤_, _^_};
 ghost use lib.ListN.{length, take};
 ghost use lib.Dec.{leb};
-ghost use Rattle.rules.specs.Fold.{pick, at, mem, anyTo, thoseTo};
+ghost use Rattle.rules.specs.Fold.{pick, at, mem, maxTo, anyTo, thoseTo};
 ghost use Rattle.rules.specs.Instance.{Instance};
 ghost use Rattle.rules.specs.Group.{reach, closure};
 ghost use Rattle.rules.specs.LowerBound.{confined, ceilDiv, lowerBound};
@@ -131,6 +131,17 @@ pub fn lies_within(mask: u32, group: u32) -> bool
     mask & !group == 0
 }
 
+// A job's minutes where its machines all lie in the group, 0 otherwise.
+fn counted(minutes: u16, mask: u32, group: u32) -> u32
+    requires { ⌜ mask < 2 ^ 24 ⌝ }
+    ensures { λ r. ⌜ (r ≡ pick (inside mask group) minutes 0) × (r ≤ 65535) ⌝ }
+{
+    if lies_within(mask, group) {
+        return minutes as u32;
+    }
+    0
+}
+
 // The minutes of the jobs whose machines all lie in the group.
 pub fn confined_of(minutes: &[u16], masks: &[u32], n: usize, group: u32) -> u32
     requires { ⌜ (n ≤ 200) × (n ≤ length (now minutes)) × (n ≤ length (now masks)) × ((b : ℕ) → at (now masks) b < 2 ^ 24) ⌝ }
@@ -141,12 +152,45 @@ pub fn confined_of(minutes: &[u16], masks: &[u32], n: usize, group: u32) -> u32
     let mut sum: u32 = 0;
     let mut b: usize = 0;
     while b < n {
-        if lies_within(masks[b], group) {
-            sum += minutes[b] as u32;
-        }
+        sum += counted(minutes[b], masks[b], group);
         b += 1;
     }
     sum
+}
+
+// The most minutes of a job whose machines all lie in the group.
+fn longest_within(minutes: &[u16], masks: &[u32], n: usize, group: u32) -> u32
+    requires { ⌜ (n ≤ length (now minutes)) × (n ≤ length (now masks)) × ((b : ℕ) → at (now masks) b < 2 ^ 24) ⌝ }
+    ensures { λ r. ⌜ r ≡ maxTo n (λ b. pick (inside (at (now (masks .entry)) b) group) (at (now (minutes .entry)) b) 0) ⌝ }
+{
+    let mut most: u32 = 0;
+    let mut b: usize = 0;
+    while b < n {
+        let x = counted(minutes[b], masks[b], group);
+        if most < x {
+            most = x;
+        }
+        b += 1;
+    }
+    most
+}
+
+// The minutes of all jobs.
+pub fn total_of(minutes: &[u16], masks: &[u32], n: usize, m: usize) -> u32
+    requires { ⌜ (m ≤ 24) × (n ≤ 200) × (n ≤ length (now minutes)) × (n ≤ length (now masks)) × ((b : ℕ) → at (now masks) b < 2 ^ 24) ⌝ }
+    ensures { λ r. ⌜ ((I : Instance) → Reads I m n (now (minutes .entry)) (now (masks .entry)) → r ≡ Load.total I) ⌝ }
+{
+    let all = all_machines(m);
+    confined_of(minutes, masks, n, all)
+}
+
+// The longest length.
+pub fn longest_of(minutes: &[u16], masks: &[u32], n: usize, m: usize) -> u32
+    requires { ⌜ (m ≤ 24) × (n ≤ length (now minutes)) × (n ≤ length (now masks)) × ((b : ℕ) → at (now masks) b < 2 ^ 24) ⌝ }
+    ensures { λ r. ⌜ ((I : Instance) → Reads I m n (now (minutes .entry)) (now (masks .entry)) → r ≡ Load.longest I) ⌝ }
+{
+    let all = all_machines(m);
+    longest_within(minutes, masks, n, all)
 }
 
 // Minutes shared out over `size` machines, rounded up.

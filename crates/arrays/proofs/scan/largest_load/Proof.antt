@@ -6,7 +6,7 @@ use native.Mathlib.Numerals.{add-one}
 use native.Mathlib.Omega.{arith}
 use borrow.Author.Needs.{needs}
 use Rattle.rules.specs.Fold.{at, maxTo, most}
-use Rattle.arrays.proofs.Search.{most-up, most-stay}
+use Rattle.theory.proofs.Fold.{most-up, most-stay}
 use Rattle.arrays.proofs.scan.largest_load.Statement.{statement}
 use Rattle.arrays.proofs.scan.largest_load.Tie as tie
 

@@ -7,10 +7,9 @@ use native.Mathlib.Omega.{arith}
 use lib.Dec.{ltb}
 use borrow.Author.Tests.{lt-ltb, le-ltb}
 use Rattle.rules.specs.Fold.{_and_, at}
-use Rattle.theory.proofs.Logic.{and-mk}
+use Rattle.theory.proofs.Logic.{and-mk, and-no-left, and-no-right}
 use Rattle.theory.proofs.View.{None, none-more, none-zero, any-at}
 use Rattle.theory.proofs.Agree.{any-miss}
-use Rattle.arrays.proofs.Search.{and-no-left, and-no-right}
 use Rattle.planner.specs.Settling.{other}
 use Rattle.planner.proofs.Placing.{Bounds, bounds, improves-is}
 use borrow.Author.Needs.{needs}

@@ -7,7 +7,7 @@ use borrow.Author.Tests.{eq-eqb, ne-eqb}
 use Rattle.rules.specs.Fold.{_and_}
 use Rattle.arrays.specs.Sets.{has}
 use Rattle.planner.specs.Settling.{other}
-use Rattle.arrays.proofs.Search.{and-no-right}
+use Rattle.theory.proofs.Logic.{and-no-right}
 use borrow.Author.Needs.{needs}
 use Rattle.planner.proofs.improve.is_other.Statement.{statement}
 use Rattle.planner.proofs.improve.is_other.Tie as tie

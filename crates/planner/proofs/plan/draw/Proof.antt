@@ -3,14 +3,13 @@ use lib.ListN.{length, take}
 use mathlib.Core.Path.{_≡_, _∙_}
 use native.Mathlib.Omega.{arith}
 use Rattle.theory.proofs.Small.{longest-small, makespan-small}
-use Rattle.planner.proofs.TrialAnswers.{longest-is}
 use Rattle.planner.proofs.Drawing.{makespan-is, sought-placing, sought-known, drawn}
 use borrow.Author.Needs.{needs}
 use Rattle.planner.proofs.plan.draw.Statement.{statement}
 use Rattle.planner.proofs.plan.draw.Tie as tie
 
-largest-requires : tie.Need-largest-requires
-largest-requires c κs = c .before .before .pre .1 .0
+longest-of-requires : tie.Need-longest-of-requires
+longest-of-requires c κs = let p = c .before .before .pre in (p .0 .1 .reads .few, p .1 .0, p .1 .1, p .0 .1 .reads .words)
 
 slice-aggregate-largest-load : tie.Need-slice-aggregate-largest-load
 slice-aggregate-largest-load c = search needs
@@ -23,7 +22,7 @@ balance-requires c κs =
     let s = c .before .before .before .before .before in
     let p = s .pre in
     let st = p .0 .1 in
-    let most = c .before .before .largest .ensures ∙ longest-is (st .reads) in
+    let most = c .before .before .longest-of .ensures _ (st .reads) in
     let highest = c .largest-load .ensures ∙ makespan-is st in
     ((p .0 .0, st, most, highest), (p .1 .0, p .1 .1, omega (arith, longest-small (st .reads .small)), omega (arith, makespan-small (st .reads .small) (take (s .args .n) (s .args .places)))))
 
@@ -31,7 +30,7 @@ settle-requires : tie.Need-settle-requires
 settle-requires c κs =
     let p = c .before .before .before .before .before .before .before .before .pre in
     let st = p .0 .1 in
-    let most = c .before .before .before .before .before .largest .ensures ∙ longest-is (st .reads) in
+    let most = c .before .before .before .before .before .longest-of .ensures _ (st .reads) in
     let highest = c .before .before .before .largest-load .ensures ∙ makespan-is st in
     sought-known st (c .before .before .balance .ensures (p .0 .0) st most highest) (p .1 .0) (p .1 .1) (let z : length (c .before .before .balance .result .loads) ≡ 24 = search needs in omega (arith, st .reads .few))
 
@@ -54,7 +53,7 @@ largest-load-requires-2 : tie.Need-largest-load-requires-2
 largest-load-requires-2 c κs =
     let p = c .before .before .before .before .before .before .before .before .before .before .before .before .before .before .before .before .pre in
     let st = p .0 .1 in
-    let most = c .before .before .before .before .before .before .before .before .before .before .before .before .before .largest .ensures ∙ longest-is (st .reads) in
+    let most = c .before .before .before .before .before .before .before .before .before .before .before .before .before .longest-of .ensures _ (st .reads) in
     let highest = c .before .before .before .before .before .before .before .before .before .before .before .largest-load .ensures ∙ makespan-is st in
     let found = c .before .before .before .before .before .before .before .before .before .before .balance .ensures (p .0 .0) st most highest in
     let k = sought-placing st found (let y = c .before .before .before .before .before .before .before .before .left in let x = c .before .before .before .before .before .before .before .before .before .before .balance in let z : length (c .before .before .before .before .before .before .before .before .before .before .balance .result .loads) ≡ 24 = search needs in omega (arith, st .reads .few)) in
@@ -62,7 +61,7 @@ largest-load-requires-2 c κs =
 
 returns : tie.Need-returns
 returns c = λ I st.
-    let most = c .before .before .before .before .before .before .before .before .before .before .before .before .before .before .largest .ensures ∙ longest-is (st .reads) in
+    let most = c .before .before .before .before .before .before .before .before .before .before .before .before .before .before .longest-of .ensures _ (st .reads) in
     let highest = c .before .before .before .before .before .before .before .before .before .before .before .before .largest-load .ensures ∙ makespan-is st in
     let found = c .before .before .before .before .before .before .before .before .before .before .before .balance .ensures I st most highest in
     let k = sought-placing st found (let y = c .before .before .before .before .before .before .before .before .before .left in let x = c .before .before .before .before .before .before .before .before .before .before .before .balance in let z : length (c .before .before .before .before .before .before .before .before .before .before .before .balance .result .loads) ≡ 24 = search needs in omega (arith, st .reads .few)) in
@@ -74,7 +73,7 @@ pub draw-spec : {M : Type 1} → statement M
 draw-spec =
     tie.close
     (tie.spec
-    largest-requires
+    longest-of-requires
     slice-aggregate-largest-load
     largest-load-requires
     balance-requires

@@ -1,6 +1,6 @@
 -- The larger of the longest length and the share, by which is larger.
 use mathlib.Core.Path.{sym, _∙_}
-use Rattle.arrays.proofs.Search.{most-up, most-stay}
+use Rattle.theory.proofs.Fold.{most-up, most-stay}
 use Rattle.trials.proofs.Within.{bound-none, bound-is}
 use borrow.Author.Needs.{needs}
 use Rattle.trials.proofs.group.bound_of.Statement.{statement}

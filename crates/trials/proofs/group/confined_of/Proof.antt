@@ -1,8 +1,6 @@
 -- The invariant: the sum over the jobs passed.
 use Prim.Native.Nat.{suc, _≤_, _-_, _*_}
-use mathlib.Core.Path.{_≡_, refl, sym, _∙_}
-use mathlib.Core.Logic.{⊎-elim}
-use native.Mathlib.Nat.{add-zero}
+use mathlib.Core.Path.{_≡_, refl, sym, ap₂, _∙_}
 use native.Mathlib.Numerals.{add-one}
 use native.Mathlib.Omega.{arith}
 use Rattle.rules.specs.Fold.{pick, at, sumTo}
@@ -22,26 +20,23 @@ loop-holds : tie.Need-loop-holds Inv-loop μ-loop
 unfolding sumTo
 loop-holds c = (omega arith, omega arith, refl)
 
-mul-lies-within : tie.Need-mul-lies-within Inv-loop μ-loop
-mul-lies-within c = search needs
+mul-counted : tie.Need-mul-counted Inv-loop μ-loop
+mul-counted c = search needs
 
-shared-slice-read-lies-within : tie.Need-shared-slice-read-lies-within Inv-loop μ-loop
-shared-slice-read-lies-within c = search needs
+shared-slice-read-counted : tie.Need-shared-slice-read-counted Inv-loop μ-loop
+shared-slice-read-counted c = search needs
 
-lies-within-requires : tie.Need-lies-within-requires Inv-loop μ-loop
-lies-within-requires c κs = c .before .before .before .before .before .pre .3 (suc (c .before .before .loop .b))
+mul-counted-2 : tie.Need-mul-counted-2 Inv-loop μ-loop
+mul-counted-2 c = search needs
 
-mul-sum : tie.Need-mul-sum Inv-loop μ-loop
-mul-sum c = search needs
+shared-slice-read-counted-2 : tie.Need-shared-slice-read-counted-2 Inv-loop μ-loop
+shared-slice-read-counted-2 c = search needs
 
-shared-slice-read-sum : tie.Need-shared-slice-read-sum Inv-loop μ-loop
-shared-slice-read-sum c = search needs
-
-cast-sum : tie.Need-cast-sum Inv-loop μ-loop
-cast-sum c = omega (arith, c .shared-slice-known4 .given (c .before .before .before .before .before .loop .b))
+counted-requires : tie.Need-counted-requires Inv-loop μ-loop
+counted-requires c κs = let l = c .before .before .before in l .before .before .before .pre .3 (suc (l .loop .b))
 
 add-sum : tie.Need-add-sum Inv-loop μ-loop
-add-sum c = omega (arith, c .shared-slice-known4 .given (c .before .before .before .before .before .loop .b))
+add-sum c = omega (arith, c .counted .ensures .1)
 
 add-b : tie.Need-add-b Inv-loop μ-loop
 add-b c = search needs
@@ -52,16 +47,9 @@ loop-less c = search needs
 loop-again : tie.Need-loop-again Inv-loop μ-loop
 unfolding sumTo
 loop-again c =
-    let at-loop = c .before .before .before .before in
-    let b = at-loop .loop .b in (
-      omega arith,
-      ⊎-elim (λ w. omega (arith, w .1 .given b)) (λ w. omega arith) (c .if1 .came),
-      rw (add-one b)
-          (⊎-elim
-          (λ w. rw (sym (c .before .lies-within .ensures) ∙ w .0 .taken) (w .2 ∙ rw (at-loop .loop .inv .2)))
-          (λ w. rw (sym (c .before .lies-within .ensures) ∙ w .0 .left) (w .1 ∙ at-loop .loop .inv .2 ∙ sym (add-zero _)))
-          (c .if1 .came)),
-    )
+    let l = c .before .before .before .before in
+    let e = c .counted .ensures in
+    (omega arith, omega (arith, e .1), rw (add-one (l .loop .b), l .loop .inv .2, e .0))
 
 returns : tie.Need-returns Inv-loop μ-loop
 returns c =
@@ -77,12 +65,11 @@ confined-of-spec =
     Inv-loop
     μ-loop
     loop-holds
-    mul-lies-within
-    shared-slice-read-lies-within
-    lies-within-requires
-    mul-sum
-    shared-slice-read-sum
-    cast-sum
+    mul-counted
+    shared-slice-read-counted
+    mul-counted-2
+    shared-slice-read-counted-2
+    counted-requires
     add-sum
     add-b
     loop-less

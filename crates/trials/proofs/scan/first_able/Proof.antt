@@ -9,8 +9,7 @@ use borrow.Author.Needs.{needs}
 use borrow.Author.Tests.{lt-ltb, le-ltb}
 use Rattle.rules.specs.Fold.{_and_, at}
 use Rattle.theory.proofs.View.{None, first-miss, first-hit, none-more, none-zero}
-use Rattle.theory.proofs.Logic.{and-mk}
-use Rattle.arrays.proofs.Search.{and-no-left, and-no-right}
+use Rattle.theory.proofs.Logic.{and-mk, and-no-left, and-no-right}
 use Rattle.trials.proofs.scan.first_able.Statement.{statement}
 use Rattle.trials.proofs.scan.first_able.Tie as tie
 

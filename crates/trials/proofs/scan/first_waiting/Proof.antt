@@ -7,8 +7,7 @@ use native.Mathlib.Omega.{arith}
 use borrow.Author.Needs.{needs}
 use borrow.Author.Tests.{eq-eqb, ne-eqb}
 use Rattle.theory.proofs.View.{None, first-miss, first-hit, none-more}
-use Rattle.theory.proofs.Logic.{and-mk}
-use Rattle.arrays.proofs.Search.{and-no-left, and-no-right}
+use Rattle.theory.proofs.Logic.{and-mk, and-no-left, and-no-right}
 use Rattle.trials.specs.Moves.{waits}
 use Rattle.trials.proofs.scan.first_waiting.Statement.{statement}
 use Rattle.trials.proofs.scan.first_waiting.Tie as tie
