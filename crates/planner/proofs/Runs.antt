@@ -2,12 +2,10 @@
 use Prim.Native.Nat.{ℕ, _-_}
 use mathlib.Core.Path.{_≡_, refl, ap, _∙_}
 use mathlib.Core.Bool.{true}
-use mathlib.Core.List.{List, [], map}
-use Rattle.rules.specs.Refusal as N
+use mathlib.Core.List.{List, map}
 use Rattle.rules.specs.Sheet.{Book, sound}
 use Rattle.rules.specs.Edit as E
 use Rattle.rules.specs.Read.{read, accepted}
-use Rattle.rules.specs.Group as G
 use Rattle.rules.specs.Run.{Call, answer, next, bookAfter, answers, answerNumbers, editBook}
 use Rattle.rules.specs.Run as R
 use Rattle.theory.proofs.Sound.{read-sound}

@@ -7,14 +7,13 @@ use native.Mathlib.Omega.{arith}
 use lib.ListN.{length, take, replicate}
 use lib.Dec.{eqb}
 use borrow.Author.Tests.{le-leb, lt-leb}
-use Rattle.rules.specs.Fold.{pick, at, sumTo, maxTo, thoseTo}
+use Rattle.rules.specs.Fold.{pick, at, sumTo, thoseTo}
 use Rattle.rules.specs.Sheet.{Book}
-use Rattle.rules.specs.Instance.{Instance, instance, places, minutesOf}
-use Rattle.rules.specs.Load.{longest, total}
+use Rattle.rules.specs.Instance.{Instance, instance, places}
+use Rattle.rules.specs.Load.{total}
 use Rattle.rules.specs.Group.{trial, passed}
 use Rattle.rules.specs.Run.{answer}
 use Rattle.theory.proofs.Valid.{Permitted}
-use Rattle.theory.proofs.Fold.{sumTo-ext}
 use Rattle.sheet.specs.declared.Refusal.the-variants.{Nothing, LevelAbove}
 use Rattle.sheet.specs.Represent.{padded}
 use Rattle.arrays.specs.Sets.{has}

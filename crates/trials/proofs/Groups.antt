@@ -3,7 +3,7 @@ use Prim.Native.Nat.{ℕ, zero, suc, _-_, _*_, _/_, _%_, _^_, _≤_, _<_}
 use mathlib.Core.Path.{_≡_, refl, sym, ap, _∙_}
 use mathlib.Core.Bool.{Bool, true, false}
 use mathlib.Core.List.{List, [], _∷_, _++_, append-nil, append-assoc}
-use native.Mathlib.Nat.{le-refl, pow-suc, mod-eq-of-lt, one-mul}
+use native.Mathlib.Nat.{pow-suc, mod-eq-of-lt, one-mul}
 use native.Mathlib.Omega.{arith}
 use lib.ListN.{length, take, set, replicate, length-append}
 use lib.Seq.{take-at, set-at}
@@ -14,13 +14,11 @@ use Rattle.rules.specs.Fold.{mem, thoseTo}
 use Rattle.rules.specs.Instance.{Instance, Assignment}
 use Rattle.rules.specs.Group.{closure}
 use Rattle.theory.proofs.Logic.{byTest}
-use Rattle.theory.proofs.Member.{mem-none}
 use Rattle.theory.proofs.Those.{those-mem, those-range}
-use Rattle.theory.proofs.Closure.{IsGroup, those}
-use Rattle.arrays.specs.Sets.{has, SetOf}
+use Rattle.arrays.specs.Sets.{SetOf}
 use Rattle.trials.specs.Grouping.{groupBy, HoldsList}
 use Rattle.arrays.proofs.Bits.{bit, bit-zero}
-use Rattle.arrays.proofs.Words.{has-bit, set-none}
+use Rattle.arrays.proofs.Words.{has-bit}
 use Rattle.arrays.proofs.Masks.{set-same}
 
 -- ---- all machines

@@ -1,4 +1,4 @@
--- `planner::scan::largest_load` meets its contract. `most` is the greatest of the entries passed.
+-- The invariant: the most over the machines passed.
 use Prim.Native.Nat.{ℕ, _≤_, _-_}
 use mathlib.Core.Path.{_≡_, refl, sym, ap, _∙_}
 use mathlib.Core.Logic.{⊎-elim}

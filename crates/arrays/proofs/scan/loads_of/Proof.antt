@@ -1,4 +1,4 @@
--- `planner::scan::loads_of` meets its contract. `loads` has the loads by the jobs passed.
+-- The invariant: the loads by the jobs passed.
 use Prim.Native.Nat.{ℕ, _≤_, _-_, _+_}
 use mathlib.Core.Path.{_≡_, refl, ap, _∙_}
 use mathlib.Core.Logic.{⊎-elim}

@@ -1,4 +1,4 @@
--- `planner::sets::mask_at` meets its contract. `x` is the set that the flags passed spell.
+-- The invariant: x is the set that the flags passed spell.
 use Prim.Native.Nat.{ℕ, suc, _≤_, _-_, _+_}
 use mathlib.Core.Path.{_≡_}
 use mathlib.Core.Bool.{Bool}

@@ -6,9 +6,6 @@ use Rattle.arrays.specs.Sets.{SetsOf}
 use Rattle.arrays.proofs.Filling.{filled-none, filled-one}
 use Rattle.arrays.proofs.sets.masks_of.Statement.{statement}
 use Rattle.arrays.proofs.sets.masks_of.Tie as tie
-use Rattle.arrays.proofs.sets.masks_of.Reads as reads
-use Rattle.arrays.proofs.sets.masks_of.Lts as lts
-use Rattle.arrays.proofs.sets.mask_at.Reads as mask-at-reads
 
 abbrev Inv-loop : tie.InvT-loop
 Inv-loop eligible n m out₀ b₀ out b = (b ≤ n) × SetsOf eligible m b out

@@ -1,4 +1,4 @@
--- `planner::sets::with` meets its contract. A machine is in one set or the other.
+-- A machine is in one set or the other.
 use borrow.Author.Needs.{needs}
 use Rattle.arrays.proofs.Words.{set-with}
 use Rattle.arrays.proofs.sets.with.Statement.{statement}

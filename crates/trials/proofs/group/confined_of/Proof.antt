@@ -1,6 +1,6 @@
 -- The invariant: the sum over the jobs passed.
 use Prim.Native.Nat.{suc, _≤_, _-_, _*_}
-use mathlib.Core.Path.{_≡_, refl, sym, ap₂, _∙_}
+use mathlib.Core.Path.{_≡_, refl, sym, _∙_}
 use native.Mathlib.Numerals.{add-one}
 use native.Mathlib.Omega.{arith}
 use Rattle.rules.specs.Fold.{pick, at, sumTo}
