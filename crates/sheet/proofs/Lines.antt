@@ -41,14 +41,6 @@ above a b x l h = rw (le-leb a x l, lt-leb x b h)
 pub part-from : (s : List ℕ) (at : ℕ) → take (length s - at) (drop at s) ≡ drop at s
 part-from s at = take-all (length s - at) (drop at s) (simp length-drop (omega arith))
 
-coded-value : (f : F.Field) (v : ℕ) → Value v ≡ codedField f → f ≡ value v
-coded-value (value x) v e = let q : v ≡ x = cc in ap value (sym q)
-coded-value fault v e = absurd (let z : _≡_ {A = ℕ} 0 1 = cc in omega arith)
-
-coded-fault : (f : F.Field) → Fault ≡ codedField f → f ≡ fault
-coded-fault (value x) e = absurd (let z : _≡_ {A = ℕ} 0 1 = cc in omega arith)
-coded-fault fault e = refl
-
 -- a number is read only from six columns
 pub six : (r : List ℕ) (v : ℕ) → field r ≡ value v → 6 ≤ length r
 unfolding field
@@ -57,23 +49,29 @@ six r v e =
     (λ t. absurd (let f : fault ≡ value v = rw t at e in let z : _≡_ {A = ℕ} 0 1 = cc in omega arith))
     (λ t. ltb-false (length r) 6 t)
 
--- what the field reader gave for the rest of s from at on
-module _ (s : List ℕ) (at : ℕ) (f : Field) (e : f ≡ codedField (field (take (length s - at) (drop at s)))) where
-  here : f ≡ codedField (field (drop at s))
-  here = e ∙ ap (λ (r : List ℕ). codedField (field r)) (part-from s at)
+-- a number stands at at, and what follows it is still in s
+pub record NumberRead (s : List ℕ) (at v : ℕ) : Type 0 where
+  pub number : numberAt (drop at s) ≡ gives v (drop (at + 6) s)
+  pub room : at + 6 ≤ length s
 
-  pub number-there : (v : ℕ) → f ≡ Value v → numberAt (drop at s) ≡ gives v (drop (at + 6) s)
+-- what the field reader's answer says of s from at on
+abbrev pub FieldSays : List ℕ → ℕ → Field → Type 0
+FieldSays s at (Value v) = NumberRead s at v
+FieldSays s at Fault = numberAt (drop at s) ≡ refuses malformed
+
+module _ (s : List ℕ) (at : ℕ) (h : at ≤ length s) where
+  by-field : (f : F.Field) → field (drop at s) ≡ f → FieldSays s at (codedField f)
   unfolding numberAt
-  number-there v g =
-      rw (coded-value (field (drop at s)) v (sym g ∙ here), drop-drop 6 at s)
+  by-field (value v) e = record {
+    number = rw (e, drop-drop 6 at s);
+    room = omega (arith, six (drop at s) v e, length-drop at s);
+  }
+  by-field fault e = rw e
 
-  pub number-missing : f ≡ Fault → numberAt (drop at s) ≡ refuses malformed
-  unfolding numberAt
-  number-missing g = rw (coded-fault (field (drop at s)) (sym g ∙ here))
-
-  pub number-room : (v : ℕ) → f ≡ Value v → at ≤ length s → at + 6 ≤ length s
-  number-room v g h =
-      omega (arith, six (drop at s) v (coded-value (field (drop at s)) v (sym g ∙ here)), length-drop at s)
+  pub field-says : {f g : Field} → f ≡ codedField (field (take (length s - at) (drop at s))) → f ≡ g → FieldSays s at g
+  field-says d e =
+      let q = sym e ∙ d ∙ ap (λ (r : List ℕ). codedField (field r)) (part-from s at) in
+      rw q (by-field (field (drop at s)) refl)
 
 -- ---- the LF at a place
 

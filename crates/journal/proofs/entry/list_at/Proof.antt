@@ -1,9 +1,18 @@
 -- How many, and then the numbers.
+use mathlib.Core.Path.{_≡_}
 use borrow.Author.Needs.{needs}
 use Rattle.rules.specs.Journal.{listAt}
-use Rattle.sheet.proofs.Lines.{number-there, number-missing, number-room}
+use Rattle.sheet.specs.declared.read.Field.{Field}
+use Rattle.sheet.proofs.Lines.{FieldSays, field-says}
 use Rattle.journal.proofs.entry.list_at.Statement.{statement}
 use Rattle.journal.proofs.entry.list_at.Tie as tie
+
+-- the field of the count
+abbrev start : tie.After-field-at → tie.Start
+start c = c .before .before .before
+
+first : {f : Field} (c : tie.After-field-at) → c .field-at .result ≡ f → FieldSays (start c .args .s .now) (start c .args .at) f
+first c = field-says (start c .args .s .now) (start c .args .at) (start c .pre) (c .field-at .ensures)
 
 sub-field-at : tie.Need-sub-field-at
 sub-field-at c = search needs
@@ -28,10 +37,7 @@ none-requires c κs = search needs
 
 returns : tie.Need-returns
 unfolding listAt
-returns c =
-    let s = c .before .before .before .before .before .before .args .s .now in
-    let at = c .before .before .before .before .before .before .args .at in
-    rw (number-missing s at _ (c .before .before .before .field-at .ensures) (c .before .enum-told .given .1)) (c .none .ensures)
+returns c = rw (first (c .before .before .before) (c .before .enum-told .given .1)) (c .none .ensures)
 
 add-second : tie.Need-add-second
 add-second c = search needs
@@ -40,15 +46,11 @@ cast-numbers-at : tie.Need-cast-numbers-at
 cast-numbers-at c = search needs
 
 numbers-at-requires : tie.Need-numbers-at-requires
-numbers-at-requires c κs =
-    number-room (c .before .before .before .before .before .before .args .s .now) (c .before .before .before .before .before .before .args .at) _ (c .before .before .before .field-at .ensures) _ (c .before .count .given .1) (c .before .before .before .before .before .before .pre)
+numbers-at-requires c κs = first (c .before .before .before) (c .before .count .given .1) .room
 
 returns-2 : tie.Need-returns-2
 unfolding listAt
-returns-2 c =
-    let s = c .before .before .before .before .before .before .before .args .s .now in
-    let at = c .before .before .before .before .before .before .before .args .at in
-    rw (number-there s at _ (c .before .before .before .before .field-at .ensures) _ (c .before .before .count .given .1)) (c .numbers-at .ensures)
+returns-2 c = rw (first (c .before .before .before .before) (c .before .before .count .given .1) .number) (c .numbers-at .ensures)
 
 pub list-at-spec : {M : Type 1} → statement M
 list-at-spec =

@@ -1,12 +1,13 @@
 -- The invariant: k of the numbers are read, and what is left goes on from them as the rules do.
 use Prim.Native.Nat.{ℕ, _-_}
-use mathlib.Core.Path.{refl, ap, _∙_}
+use mathlib.Core.Path.{_≡_, refl, ap, _∙_}
 use mathlib.Core.List.{List}
 use mathlib.Core.Logic.{⊎-elim}
 use native.Mathlib.Omega.{arith}
 use borrow.Author.Needs.{needs}
 use lib.ListN.{set}
-use Rattle.sheet.proofs.Lines.{number-there, number-missing, number-room}
+use Rattle.sheet.specs.declared.read.Field.{Field}
+use Rattle.sheet.proofs.Lines.{NumberRead, FieldSays, field-says}
 use Rattle.journal.proofs.Numbers.{row-fills, row-full, Sofar, none-yet, then-missing, one-more, all-read}
 use Rattle.journal.proofs.entry.numbers_at.Statement.{statement}
 use Rattle.journal.proofs.entry.numbers_at.Tie as tie
@@ -16,6 +17,24 @@ Inv-loop s at count list₀ k₀ next₀ list k next = Sofar s at count list k n
 
 abbrev μ-loop : tie.MeasureT-loop
 μ-loop s at count list₀ k₀ next₀ list k next = count - k
+
+-- the loop's turn, and the bytes
+abbrev turn : tie.After-field-at Inv-loop μ-loop → tie.At-loop Inv-loop μ-loop
+turn c = c .before .before .before
+
+abbrev text : tie.At-loop Inv-loop μ-loop → List ℕ
+text t = t .before .before .args .s .now
+
+-- the next field
+next-field : {f : Field} (c : tie.After-field-at Inv-loop μ-loop) → c .field-at .result ≡ f → FieldSays (text (turn c)) (turn c .loop .next) f
+next-field c = field-says (text (turn c)) (turn c .loop .next) (turn c .loop .inv .room) (c .field-at .ensures)
+
+-- a number was read
+abbrev turn1 : tie.After-known-told Inv-loop μ-loop → tie.At-loop Inv-loop μ-loop
+turn1 c = turn (c .before .before .before)
+
+x-read : (c : tie.After-known-told Inv-loop μ-loop) → NumberRead (text (turn1 c)) (turn1 c .loop .next) (c .before .x .given .0 .0)
+x-read c = next-field (c .before .before .before) (c .before .x .given .1)
 
 loop-holds : tie.Need-loop-holds Inv-loop μ-loop
 loop-holds c = none-yet _ _ _ _ refl (c .before .pre)
@@ -43,10 +62,10 @@ none-requires c κs = search needs
 
 returns : tie.Need-returns Inv-loop μ-loop
 returns c =
-    let s = c .before .before .before .before .before .before .before .before .args .s .now in
-    let next = c .before .before .before .before .before .before .loop .next in
+    let g = c .before .before .before in
+    let t = turn g in
     c .none .ensures
-    ∙ then-missing s _ _ _ _ next (c .before .before .before .before .before .before .loop .inv) (c .before .before .before .before .before .loop-test .taken) (number-missing s next _ (c .before .before .before .field-at .ensures) (c .before .enum-told .given .1))
+    ∙ then-missing (text t) _ _ _ _ (t .loop .next) (t .loop .inv) (g .before .before .loop-test .taken) (next-field g (c .before .enum-told .given .1))
 
 mul-list : tie.Need-mul-list Inv-loop μ-loop
 mul-list c = search needs
@@ -55,8 +74,7 @@ array-write-list : tie.Need-array-write-list Inv-loop μ-loop
 array-write-list c = search needs
 
 add-next : tie.Need-add-next Inv-loop μ-loop
-add-next c =
-    omega (arith, number-room (c .before .before .before .before .before .before .before .before .before .args .s .now) (c .before .before .before .before .before .before .before .loop .next) _ (c .before .before .before .before .field-at .ensures) _ (c .before .before .x .given .1) (c .before .before .before .before .before .before .before .loop .inv .room))
+add-next c = omega (arith, x-read (c .before) .room)
 
 add-k : tie.Need-add-k Inv-loop μ-loop
 add-k c = search needs
@@ -66,14 +84,12 @@ loop-less c = search needs
 
 loop-again : tie.Need-loop-again Inv-loop μ-loop
 loop-again c =
-    let s = c .before .before .before .before .before .before .before .before .before .args .s .now in
-    let next = c .before .before .before .before .before .before .before .loop .next in
-    let k = c .before .before .before .before .before .before .before .loop .k in
-    let f = c .before .before .before .before .before .before .before .loop .inv in
+    let t = turn1 (c .before) in
+    let k = t .loop .k in
+    let f = t .loop .inv in
     let x = c .before .before .x .given .0 .0 in
-    one-more s _ _ (c .before .before .before .before .before .before .before .loop .list) k next f x _ (c .before .before .before .before .before .before .loop-test .taken)
-    (number-there s next _ (c .before .before .before .before .field-at .ensures) x (c .before .before .x .given .1))
-    (number-room s next _ (c .before .before .before .before .field-at .ensures) x (c .before .before .x .given .1) (f .room))
+    let r = x-read (c .before) in
+    one-more (text t) _ _ (t .loop .list) k (t .loop .next) f x _ (c .before .before .before .before .before .before .loop-test .taken) (r .number) (r .room)
     (⊎-elim
     (λ w. w .1 ∙ ap (λ (l : List ℕ). set l k x) (f .same) ∙ row-fills (f .numbers) k x (f .count) (w .0 .taken))
     (λ w. w .1 ∙ f .same ∙ row-full (f .numbers) k x (f .count) (w .0 .left))

@@ -1,9 +1,18 @@
 -- The number is read, or missing.
 use Prim.Native.Nat.{_+_}
+use mathlib.Core.Path.{_≡_}
 use borrow.Author.Needs.{needs}
-use Rattle.sheet.proofs.Lines.{number-there, number-missing, number-room, next-at}
+use Rattle.sheet.specs.declared.read.Field.{Field}
+use Rattle.sheet.proofs.Lines.{FieldSays, field-says, next-at}
 use Rattle.journal.proofs.entry.one_number.Statement.{statement}
 use Rattle.journal.proofs.entry.one_number.Tie as tie
+
+-- the field
+abbrev start : tie.After-field-at → tie.Start
+start c = c .before .before .before
+
+first : {f : Field} (c : tie.After-field-at) → c .field-at .result ≡ f → FieldSays (start c .args .s .now) (start c .args .at) f
+first c = field-says (start c .args .s .now) (start c .args .at) (start c .pre) (c .field-at .ensures)
 
 sub-field-at : tie.Need-sub-field-at
 sub-field-at c = search needs
@@ -27,9 +36,7 @@ none-requires : tie.Need-none-requires
 none-requires c κs = search needs
 
 returns : tie.Need-returns
-returns c =
-    let s = c .before .before .before .before .before .before .args .s .now in
-    rw (number-missing s (c .before .before .before .before .before .before .args .at) _ (c .before .before .before .field-at .ensures) (c .before .enum-told .given .1)) (c .none .ensures)
+returns c = rw (first (c .before .before .before) (c .before .enum-told .given .1)) (c .none .ensures)
 
 add-plain : tie.Need-add-plain
 add-plain c = search needs
@@ -39,13 +46,9 @@ plain-requires c κs = search needs
 
 returns-2 : tie.Need-returns-2
 returns-2 c =
-    let s = c .before .before .before .before .before .before .before .args .s .now in
-    let at = c .before .before .before .before .before .before .before .args .at in
-    rw (
-      number-there s at _ (c .before .before .before .before .field-at .ensures) _ (c .before .before .a .given .1),
-      ← next-at s (at + 6) (number-room s at _ (c .before .before .before .before .field-at .ensures) _ (c .before .before .a .given .1) (c .before .before .before .before .before .before .before .pre)),
-    )
-    (c .plain .ensures)
+    let g = c .before .before .before .before in
+    let a = first g (c .before .before .a .given .1) in
+    rw (a .number, ← next-at (start g .args .s .now) (start g .args .at + 6) (a .room)) (c .plain .ensures)
 
 pub one-number-spec : {M : Type 1} → statement M
 one-number-spec =

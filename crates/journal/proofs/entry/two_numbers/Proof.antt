@@ -1,9 +1,37 @@
 -- Each number is read in its turn, or missing.
-use Prim.Native.Nat.{_+_}
+use Prim.Native.Nat.{ℕ, _+_, _≤_}
+use mathlib.Core.Path.{_≡_}
+use mathlib.Core.List.{List}
 use borrow.Author.Needs.{needs}
-use Rattle.sheet.proofs.Lines.{number-there, number-missing, number-room, next-at}
+use lib.ListN.{length}
+use Rattle.sheet.specs.declared.read.Field.{Field}
+use Rattle.sheet.proofs.Lines.{FieldSays, field-says, next-at}
 use Rattle.journal.proofs.entry.two_numbers.Statement.{statement}
 use Rattle.journal.proofs.entry.two_numbers.Tie as tie
+
+-- the first field
+abbrev start : tie.After-field-at → tie.Start
+start c = c .before .before .before
+
+first : {f : Field} (c : tie.After-field-at) → c .field-at .result ≡ f → FieldSays (start c .args .s .now) (start c .args .at) f
+first c = field-says (start c .args .s .now) (start c .args .at) (start c .pre) (c .field-at .ensures)
+
+-- the first number was read
+a-room : (c : tie.After-known-told) → start (c .before .before .before) .args .at + 6 ≤ length (start (c .before .before .before) .args .s .now)
+a-room c = first (c .before .before .before) (c .before .a .given .1) .room
+
+-- the second field
+abbrev field1 : tie.After-field-at2 → tie.After-field-at
+field1 c = c .before .before .before .before .before
+
+abbrev text : tie.After-field-at2 → List ℕ
+text c = start (field1 c) .args .s .now
+
+abbrev at2 : tie.After-field-at2 → ℕ
+at2 c = start (field1 c) .args .at + 6
+
+second : {f : Field} (c : tie.After-field-at2) → c .field-at2 .result ≡ f → FieldSays (text c) (at2 c) f
+second c = field-says (text c) (at2 c) (a-room (c .before .before)) (c .field-at2 .ensures)
 
 sub-field-at : tie.Need-sub-field-at
 sub-field-at c = search needs
@@ -27,19 +55,16 @@ none-requires : tie.Need-none-requires
 none-requires c κs = search needs
 
 returns : tie.Need-returns
-returns c =
-    rw (number-missing (c .before .before .before .before .before .before .args .s .now) (c .before .before .before .before .before .before .args .at) _ (c .before .before .before .field-at .ensures) (c .before .enum-told .given .1)) (c .none .ensures)
+returns c = rw (first (c .before .before .before) (c .before .enum-told .given .1)) (c .none .ensures)
 
 add-second : tie.Need-add-second
 add-second c = search needs
 
 sub-field-at-2 : tie.Need-sub-field-at-2
-sub-field-at-2 c =
-    number-room (c .before .before .before .before .before .before .args .s .now) (c .before .before .before .before .before .before .args .at) _ (c .before .before .before .field-at .ensures) _ (c .before .a .given .1) (c .before .before .before .before .before .before .pre)
+sub-field-at-2 c = a-room c
 
 part-field-at-start-2 : tie.Need-part-field-at-start-2
-part-field-at-start-2 c =
-    number-room (c .before .before .before .before .before .before .args .s .now) (c .before .before .before .before .before .before .args .at) _ (c .before .before .before .field-at .ensures) _ (c .before .a .given .1) (c .before .before .before .before .before .before .pre)
+part-field-at-start-2 c = a-room c
 
 part-field-at-end-2 : tie.Need-part-field-at-end-2
 part-field-at-end-2 c = search needs
@@ -58,13 +83,8 @@ none-requires-2 c κs = search needs
 
 returns-2 : tie.Need-returns-2
 returns-2 c =
-    let s = c .before .before .before .before .before .before .before .before .before .before .before .args .s .now in
-    let at = c .before .before .before .before .before .before .before .before .before .before .before .args .at in
-    rw (
-      number-there s at _ (c .before .before .before .before .before .before .before .before .field-at .ensures) _ (c .before .before .before .before .before .before .a .given .1),
-      number-missing s (at + 6) _ (c .before .before .before .field-at2 .ensures) (c .before .enum-told2 .given .1),
-    )
-    (c .none2 .ensures)
+    let g = c .before .before .before in
+    rw (first (field1 g) (g .before .before .before .a .given .1) .number, second g (c .before .enum-told2 .given .1)) (c .none2 .ensures)
 
 add-plain : tie.Need-add-plain
 add-plain c = search needs
@@ -74,15 +94,9 @@ plain-requires c κs = search needs
 
 returns-3 : tie.Need-returns-3
 returns-3 c =
-    let s = c .before .before .before .before .before .before .before .before .before .before .before .before .args .s .now in
-    let at = c .before .before .before .before .before .before .before .before .before .before .before .before .args .at in
-    let r = number-room s at _ (c .before .before .before .before .before .before .before .before .before .field-at .ensures) _ (c .before .before .before .before .before .before .before .a .given .1) (c .before .before .before .before .before .before .before .before .before .before .before .before .pre) in
-    rw (
-      number-there s at _ (c .before .before .before .before .before .before .before .before .before .field-at .ensures) _ (c .before .before .before .before .before .before .before .a .given .1),
-      number-there s (at + 6) _ (c .before .before .before .before .field-at2 .ensures) _ (c .before .before .b .given .1),
-      ← next-at s (at + 6 + 6) (number-room s (at + 6) _ (c .before .before .before .before .field-at2 .ensures) _ (c .before .before .b .given .1) r),
-    )
-    (c .plain .ensures)
+    let g = c .before .before .before .before in
+    let b = second g (c .before .before .b .given .1) in
+    rw (first (field1 g) (g .before .before .before .a .given .1) .number, b .number, ← next-at (text g) (at2 g + 6) (b .room)) (c .plain .ensures)
 
 pub two-numbers-spec : {M : Type 1} → statement M
 two-numbers-spec =
