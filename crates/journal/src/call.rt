@@ -52,7 +52,7 @@ fn enter_loads(numbers: &mut [u64], at: usize, part: &[u32], count: usize)
     }
 }
 
-// A refusal's number, or 0, alone.
+// An answer that is one number: a refusal's, or 0.
 fn of_refusal(sheet: Sheet, number: u32) -> Made
     ensures { λ r. ⌜ r ≡ madeWith sheet (number ∷ []) false ⌝ }
 {
@@ -66,6 +66,7 @@ fn of_refusal(sheet: Sheet, number: u32) -> Made
     }
 }
 
+// The answer to an edit, with the sheet that it leaves.
 fn of_edit(e: Edited) -> Made
     ensures { λ r. ⌜ r ≡ madeWith (e .sheet) (numberOf (e .refusal) ∷ []) false ⌝ }
 {
@@ -74,7 +75,7 @@ fn of_edit(e: Edited) -> Made
     of_refusal(sheet, code(refusal))
 }
 
-// m is how many instruments the sheet has.
+// The answer to a review of a sheet of m instruments.
 fn of_review(sheet: Sheet, v: Reviewed, m: usize) -> Made
     requires { ⌜ (m ≤ 24) × (m ≤ length (v .loads)) ⌝ }
     ensures { λ r. ⌜ r ≡ madeWith sheet (reviewNumbers m v) false ⌝ }
@@ -92,7 +93,7 @@ fn of_review(sheet: Sheet, v: Reviewed, m: usize) -> Made
     }
 }
 
-// 1 for a pass, 0 for a failure; and the first count of list.
+// The answer to a trial that was not refused: 1 for a pass, 0 for a failure, its counts, and the first count of list.
 fn of_tried(sheet: Sheet, passed: u64, lifts: u32, pushes: u32, list: &[u8], count: usize) -> Made
     requires { ⌜ (count ≤ 200) × (count ≤ length (now list)) ⌝ }
     ensures { λ r. ⌜ r ≡ madeWith sheet (0 ∷ passed ∷ lifts ∷ pushes ∷ take count (now (list .entry))) false ⌝ }
@@ -110,7 +111,7 @@ fn of_tried(sheet: Sheet, passed: u64, lifts: u32, pushes: u32, list: &[u8], cou
     }
 }
 
-// n is how many batches the sheet has.
+// The answer to a trial of a sheet of n batches.
 fn of_trial(sheet: Sheet, t: Tried, n: usize) -> Made
     requires { ⌜ (n ≤ 200) × (n ≤ length (t .places)) × (t .size ≤ 24) × (t .size ≤ length (t .group)) ⌝ }
     ensures { λ r. ⌜ r ≡ madeWith sheet (trialNumbers n t) false ⌝ }
@@ -128,6 +129,7 @@ fn of_trial(sheet: Sheet, t: Tried, n: usize) -> Made
     of_tried(sheet, 0, t.lifts, t.pushes, &group, t.size)
 }
 
+// The answer to planning, with the sheet that it leaves.
 fn of_plan(sheet: Sheet, p: Planned) -> Made
     requires { ⌜ (p .size ≤ 24) × (length (p .group) ≡ 24) ⌝ }
     ensures { λ r. ⌜ r ≡ madeWith sheet (plannedNumbers p) true ⌝ }

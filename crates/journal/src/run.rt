@@ -19,7 +19,7 @@ use sheet::Refusal;
 use sheet::Sheet;
 use sheet::read::read;
 
-// Makes all calls, and adds up how many bytes their answers have, until they are more than room.
+// Whether the answers of all calls have at most room bytes. Makes the calls, and adds up, until they have more.
 fn fits(sheet: Sheet, journal: &[u8], room: usize) -> bool
     requires { ⌜ Sound sheet × Spells (now journal) ⌝ }
     ensures { λ r. ⌜ r ≡ leb (length (textOf (bookOf sheet) (journalOf (now (journal .entry))))) room ⌝ }
@@ -96,8 +96,8 @@ fn run_on(sheet: Sheet, journal: &[u8], out: &mut [u8]) -> Hosted
 }
 
 // Reads a sheet of any bytes, makes the calls of a journal of any bytes on it, one after the other, and writes their answers at the
-// front of `answers`. A refusal of the sheet comes before one of the journal, and both before 9; the journal's is 19, with its line. No refusal writes anything; bytes
-// past the answers stay. To C each slice is a pointer and a length:
+// front of `answers`. A refusal of the sheet comes before one of the journal, and both before 9; the journal's is 19, with its line.
+// No refusal writes anything; bytes past the answers stay. To C each slice is a pointer and a length:
 //   Hosted bankplan_run(const uint8_t *sheet, size_t sheet_length, const uint8_t *journal, size_t journal_length,
 //                    uint8_t *answers, size_t answers_length);
 #[no_mangle]

@@ -6,8 +6,8 @@
 --   Planning           Balance, LowerBound, Plan
 --   Runs               Run
 --   The listing        Listing
+--   Cases              Cases, and Text, in which its files are written
 -- Journal, calls and answers as texts, is not in document 01.
---   Cases              Cases
 -- Fold has the lists by number and the folds over 1 to k that all of them use.
 pub mod Fold
 pub mod Refusal

@@ -1,4 +1,4 @@
--- `probe::all_cases` is safe and ends: the measure is the number of turns that are left.
+-- The measure is the number of turns that are left.
 use mathlib.Core.Path.{_≡_}
 use lib.ListN.{length}
 use borrow.Author.Needs.{needs}

@@ -1,4 +1,4 @@
--- `probe::case` is safe: the sheet that reading hands on is sound.
+-- The sheet that reading hands on is sound.
 use mathlib.Core.Path.{sym}
 use lib.Seq.{length-take-le}
 use native.Mathlib.Omega.{arith}

@@ -1,4 +1,4 @@
--- `probe::edit` hands back a sound sheet, since every edit keeps one.
+-- Every edit keeps a sound sheet.
 use borrow.Author.Needs.{needs}
 use Rattle.sheet.proofs.Edits.{edit-keeps}
 use Rattle.probe.proofs.edit.Statement.{statement}

@@ -1,4 +1,4 @@
--- `probe::next_case` is safe: a case is taken only where the buffer holds it whole.
+-- A case is taken only where the buffer holds it whole.
 use mathlib.Core.Path.{sym}
 use lib.ListN.{length-take}
 use lib.Seq.{length-take-le}

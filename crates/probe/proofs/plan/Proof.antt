@@ -1,4 +1,4 @@
--- `probe::plan` leaves a sound sheet, as planning does.
+-- Planning leaves a sound sheet.
 use Rattle.planner.proofs.Drawing.{plan-keeps}
 use borrow.Author.Needs.{needs}
 use Rattle.probe.proofs.plan.Statement.{statement}

@@ -1,4 +1,4 @@
--- `probe::run` is safe, ends, and hands back a sound sheet: each call keeps it sound and takes at least 10 bytes.
+-- Each call keeps the sheet sound and takes at least 10 bytes.
 use Prim.Native.Nat.{_≤_, _-_}
 use mathlib.Core.Path.{_≡_, sym}
 use lib.ListN.{length}

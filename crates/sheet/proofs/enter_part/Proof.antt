@@ -1,4 +1,4 @@
--- `enter_part` meets its contract: after j turns the first j entries of the part are in place.
+-- The invariant: the first j entries of the part are in place.
 use borrow.Author.Needs.{needs}
 use Prim.Native.Nat.{_-_}
 use Rattle.sheet.proofs.Enter.{Entered, entered-start, entered-step, entered-end}

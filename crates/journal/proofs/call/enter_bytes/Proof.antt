@@ -1,4 +1,4 @@
--- After j turns the first j entries of the part are in place.
+-- The invariant: the first j entries of the part are in place.
 use Prim.Native.Nat.{_-_}
 use native.Mathlib.Omega.{arith}
 use borrow.Author.Needs.{needs}

@@ -1,4 +1,4 @@
--- The invariant: the first fault is that of the lines that are left, and each line so far took seven bytes.
+-- The invariant: the first fault is that of the lines that are left, and each line so far took seven bytes or more.
 use Prim.Native.Nat.{suc, _+_, _-_, _*_, _≤_}
 use mathlib.Core.Path.{_≡_, sym, ap, _∙_}
 use native.Mathlib.Numerals.{add-one}

@@ -1,4 +1,4 @@
--- `text::next_column` meets its contract, at each of its three ends.
+-- The last column is a digit. Before it stands a blank where nothing is left of the number, and a digit otherwise.
 use mathlib.Core.Path.{sym}
 use borrow.Author.Needs.{needs}
 use Rattle.listing.proofs.Columns.{column-last, column-blank, column-digit}

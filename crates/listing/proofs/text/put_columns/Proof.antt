@@ -1,4 +1,4 @@
--- `text::put_columns` meets its contract: so many last columns are written, and `rest` is what stands before them.
+-- So many last columns are written, and `rest` is what stands before them.
 use Prim.Native.Nat.{ℕ, _+_, _-_, _/_, _^_, _≤_}
 use mathlib.Core.Path.{_≡_, refl, ap₂, _∙_, subst}
 use mathlib.Core.List.{List}

@@ -1,4 +1,4 @@
--- `text::put_end` meets its contract: one entry, in front of nothing.
+-- One entry, in front of nothing.
 use Prim.Native.Nat.{_+_}
 use mathlib.Core.Path.{refl}
 use Rattle.listing.proofs.Pasted.{wrote-none, wrote-front}

@@ -1,4 +1,4 @@
--- `text::put_first_line` meets its contract: five fields, the columns of the moves, and an end.
+-- Five fields, the columns of the moves, and an end.
 use Prim.Native.Nat.{ℕ, _+_}
 use mathlib.Core.Path.{refl, sym, ap}
 use mathlib.Core.List.{List, [], _∷_, _++_}

@@ -1,4 +1,4 @@
--- `text::put_group_line` meets its contract: behind the size, the first i numbers are written, and `to` is where they end.
+-- The invariant: behind the size, the first i numbers are written, and `to` is where they end.
 use Prim.Native.Nat.{ℕ, _+_, _-_, _*_, _≤_}
 use mathlib.Core.Path.{_≡_, refl, sym, ap, _∙_}
 use mathlib.Core.List.{[], _∷_}

@@ -1,4 +1,4 @@
--- `text::put_listing` meets its contract: the three parts, one behind the other.
+-- The three parts, one behind the other.
 use Prim.Native.Nat.{ℕ, _+_, _*_, _≤_}
 use mathlib.Core.Path.{_≡_, refl, sym, ap, _∙_}
 use mathlib.Core.List.{List, _∷_, _++_}

@@ -1,4 +1,4 @@
--- `text::put_refusal` meets its contract: an end behind two fields.
+-- An end behind two fields.
 use Prim.Native.Nat.{ℕ}
 use mathlib.Core.Path.{refl}
 use mathlib.Core.List.{List, [], _∷_}

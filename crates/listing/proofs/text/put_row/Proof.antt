@@ -1,4 +1,4 @@
--- `text::put_row` meets its contract: an end behind three fields.
+-- An end behind three fields.
 use Prim.Native.Nat.{ℕ, _+_}
 use mathlib.Core.Path.{refl}
 use mathlib.Core.List.{List, [], _∷_}

@@ -1,4 +1,4 @@
--- `text::put_three` meets its contract: a field behind two.
+-- A field behind two.
 use Prim.Native.Nat.{ℕ, _+_}
 use mathlib.Core.Path.{refl, sym}
 use mathlib.Core.List.{List, [], _∷_}

@@ -1,4 +1,4 @@
--- `text::put_two` meets its contract: a field behind a field.
+-- A field behind a field.
 use Prim.Native.Nat.{ℕ, _+_}
 use mathlib.Core.Path.{refl, sym, ap, _∙_}
 use mathlib.Core.List.{List, [], _∷_, _++_}

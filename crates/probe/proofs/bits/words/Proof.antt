@@ -1,4 +1,4 @@
--- `probe::bits::words` is safe and ends.
+-- At most `count` numbers, which is at most the length of the array.
 use Prim.Native.Nat.{_≤_, _-_}
 use mathlib.Core.Path.{_≡_}
 use lib.ListN.{length}

@@ -1,4 +1,4 @@
--- `probe::content::batches` is safe and ends.
+-- The buffer keeps its length, and a batch is passed with each turn.
 use Prim.Native.Nat.{_≤_, _-_}
 use mathlib.Core.Path.{_≡_}
 use lib.ListN.{length}

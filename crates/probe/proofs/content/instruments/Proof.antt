@@ -1,4 +1,4 @@
--- `probe::content::instruments` is safe and ends.
+-- The buffer keeps its length, and one of 24 marks is passed with each turn.
 use Prim.Native.Nat.{_≤_, _-_}
 use mathlib.Core.Path.{_≡_}
 use lib.ListN.{length}

@@ -1,4 +1,4 @@
--- `probe::content::write` is safe: a sound sheet has at most 200 batches.
+-- A sound sheet has at most 200 batches.
 use native.Mathlib.Omega.{arith}
 use Rattle.sheet.proofs.SoundViews.{view-batches}
 use borrow.Author.Needs.{needs}

@@ -1,4 +1,4 @@
--- `probe::shown::loads` is safe and ends.
+-- The buffer keeps its length, and an entry is passed with each turn.
 use Prim.Native.Nat.{_≤_, _-_}
 use mathlib.Core.Path.{_≡_}
 use lib.ListN.{length}

@@ -1,4 +1,4 @@
--- `probe::text::flush` is safe: the part that is written lies within the buffer.
+-- The part that is written lies within the buffer.
 use mathlib.Core.Path.{sym}
 use lib.Seq.{length-take-le}
 use native.Mathlib.Omega.{arith}

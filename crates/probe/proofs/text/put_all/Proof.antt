@@ -1,4 +1,4 @@
--- `probe::text::put_all` is safe and ends.
+-- The buffer keeps its length, and a byte of s is passed with each turn.
 use Prim.Native.Nat.{_≤_, _-_}
 use mathlib.Core.Path.{_≡_}
 use lib.ListN.{length}

@@ -1,4 +1,4 @@
--- `Sheet::appended` meets its contract.
+-- A batch is entered in each array at the index n, which is below 200.
 use native.Mathlib.Omega.{arith}
 use mathlib.Core.Path.{_≡_}
 use lib.ListN.{length}

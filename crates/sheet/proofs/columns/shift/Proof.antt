@@ -1,4 +1,4 @@
--- By the test.
+-- By whether v is 0.
 use borrow.Author.Tests.{ne-eqb}
 use Rattle.sheet.proofs.columns.shift.Statement.{statement}
 use Rattle.sheet.proofs.columns.shift.Tie as tie

@@ -1,4 +1,4 @@
--- By the test.
+-- Below 1,000,000 the number, from there on the fault.
 use borrow.Author.Tests.{lt-ltb, le-ltb}
 use Rattle.sheet.proofs.read.given.Statement.{statement}
 use Rattle.sheet.proofs.read.given.Tie as tie
