@@ -17,7 +17,7 @@ use Rattle.rules.specs.Journal.{numbersAt, listAt, addAt, withdrawAt, requalify
 use Rattle.theory.proofs.Logic.{conflict}
 use Rattle.sheet.proofs.Lines.{six}
 use Rattle.journal.specs.declared.entry.Entry.{Entry}
-use Rattle.journal.specs.declared.entry.Kept.{Kept}
+use Rattle.journal.specs.declared.entry.KeptList.{KeptList}
 use Rattle.journal.specs.Entry.{entryWith, entryOf, noEntry, entryAs, keptAs, oneNumber, twoNumbers, numberAndList, numbersAs}
 use Rattle.journal.proofs.Numbers.{row-few, row-long}
 
@@ -198,13 +198,13 @@ then-faulty size (refuses g) e f q t = refl
 
 -- ---- a list that is read
 
-pub list-faulty : (size kind a : ℕ) (l : Kept) (p : Part (List ℕ)) → l ≡ keptAs size p → l .fault ≡ true
+pub list-faulty : (size kind a : ℕ) (l : KeptList) (p : Part (List ℕ)) → l ≡ keptAs size p → l .fault ≡ true
     → noEntry ≡ numbersAs size (andThen p (λ m r. gives (entryWith kind a 0 m) r))
-list-faulty size kind a l (gives m r) e t = conflict t (ap (λ (x : Kept). x .fault) e)
+list-faulty size kind a l (gives m r) e t = conflict t (ap (λ (x : KeptList). x .fault) e)
 list-faulty size kind a l (refuses g) e t = refl
 
-abbrev listing : ℕ → ℕ → Kept → Entry
-listing kind a l = record {
+abbrev withList : ℕ → ℕ → KeptList → Entry
+withList kind a l = record {
   fault = false;
   kind = kind;
   a = a;
@@ -214,10 +214,10 @@ listing kind a l = record {
   next = l .next;
 }
 
-pub list-there : (size kind a : ℕ) (l : Kept) (p : Part (List ℕ)) → l ≡ keptAs size p → l .fault ≡ false
-    → listing kind a l ≡ numbersAs size (andThen p (λ m r. gives (entryWith kind a 0 m) r))
-list-there size kind a l (gives m r) e t = ap (listing kind a) e
-list-there size kind a l (refuses g) e t = conflict (ap (λ (x : Kept). x .fault) e) t
+pub list-there : (size kind a : ℕ) (l : KeptList) (p : Part (List ℕ)) → l ≡ keptAs size p → l .fault ≡ false
+    → withList kind a l ≡ numbersAs size (andThen p (λ m r. gives (entryWith kind a 0 m) r))
+list-there size kind a l (gives m r) e t = ap (withList kind a) e
+list-there size kind a l (refuses g) e t = conflict (ap (λ (x : KeptList). x .fault) e) t
 
 -- ---- the numbers of each kind of call
 

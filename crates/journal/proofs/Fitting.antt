@@ -35,10 +35,10 @@ use Rattle.sheet.proofs.Marking.{length-listTo}
 use Rattle.sheet.proofs.SoundViews.{view-instruments, view-batches, view-valid, view-permitted, view-small}
 use Rattle.listing.proofs.Fields.{fields-length, line-length}
 use Rattle.listing.proofs.Figures.{plan-fits, group-few}
-use Rattle.journal.specs.Answering.{isPlan, lineOf, lineLength, Small, Fitting}
+use Rattle.journal.specs.Answering.{isPlan, lineOf, lineLength, SixColumns, Fitting}
 use Rattle.journal.proofs.Small.{small-none, small-more, small-one, small-to, small-mem, small-by}
 
-plain : (l : List ℕ) → length l ≤ 204 → Small l → Fitting false l
+plain : (l : List ℕ) → length l ≤ 204 → SixColumns l → Fitting false l
 plain l h s = record {
   few = h;
   plain = λ e. s;
@@ -70,10 +70,10 @@ first-le : {k : ℕ} {p : ℕ → Bool} {r : ℕ} → First k p r → r ≤ k
 first-le (nowhere h) = omega arith
 first-le (found j l e h) = omega arith
 
-group-small : {I : Instance} {g : List ℕ} → I .m ≤ 24 → IsGroup I g → Small g
+group-small : {I : Instance} {g : List ℕ} → I .m ≤ 24 → IsGroup I g → SixColumns g
 group-small {I} {g} h e = small-mem g (λ i q. omega (arith, group-range e i q .1))
 
-showing-small : {I : Instance} {l : ℕ} {g : List ℕ} → I .m ≤ 24 → Showing I l g → Small g
+showing-small : {I : Instance} {l : ℕ} {g : List ℕ} → I .m ≤ 24 → Showing I l g → SixColumns g
 showing-small h unfailed = small-none
 showing-small h (showed l g f) = group-small h (f .group)
 
@@ -129,7 +129,7 @@ module _ (s : Sheet) (v : Sound s) where
   try-fits a true = tried-fits a (outcome (instance (bookOf s)) (places (bookOf s)) (view-valid s v) (view-permitted s v) a)
   try-fits a false = refusal-fits N.levelAbove
 
-  plan-small : Small (planBook (bookOf s) .group)
+  plan-small : SixColumns (planBook (bookOf s) .group)
   unfolding plan
   plan-small = showing-small machines (plan-showing (instance (bookOf s)) (places (bookOf s)) (view-valid s v) (view-permitted s v))
 

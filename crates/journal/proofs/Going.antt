@@ -33,7 +33,7 @@ pub record Answered (k : Book) (c : Call) (m : Made) : Type 0 where
   pub few : m .size ≤ 204
   pub whole : m .size ≤ length (m .numbers)
   pub long : length (take (m .size) (m .numbers)) ≡ m .size
-  pub fits : Fitting (m .plan) (take (m .size) (m .numbers))
+  pub inColumns : Fitting (m .plan) (take (m .size) (m .numbers))
   pub text : lineOf (m .plan) (take (m .size) (m .numbers)) ≡ answerLine (answer k c)
   pub bytes : length (answerLine (answer k c)) ≡ lineLength (m .plan) (m .size)
 
@@ -51,7 +51,7 @@ module _ (s : Sheet) (v : Sound s) (c : Call) where
         few = f .few;
         whole = omega (arith, f .few, length-padded 204 l (f .few));
         long = ap length e;
-        fits = rw e f;
+        inColumns = rw e f;
         text = rw e (line-is a);
         bytes = ap length (sym (line-is a)) ∙ line-of-length (isPlan a) l f;
       }

@@ -16,8 +16,8 @@ use Rattle.theory.proofs.Logic.{byTest}
 use Rattle.sheet.specs.Represent.{padded}
 use Rattle.sheet.proofs.Padded.{set-append, length-padded}
 use Rattle.sheet.proofs.Lines.{next-at}
-use Rattle.journal.specs.declared.entry.Kept.{Kept}
-use Rattle.journal.specs.Entry.{noList, keptAs}
+use Rattle.journal.specs.declared.entry.KeptList.{KeptList}
+use Rattle.journal.specs.Entry.{noKept, keptAs}
 
 -- ---- the first 25 of a list, in a row of 25
 
@@ -95,7 +95,7 @@ module _ (s : List ℕ) (at c : ℕ) where
         ap (λ (i : ℕ). after (f .numbers) (numbersAt i (drop next s))) (sym e) ∙ f .rest
 
     -- the next number is missing
-    pub then-missing : k < c → numberAt (drop next s) ≡ refuses malformed → noList ≡ keptAs (length s) (numbersAt c (drop at s))
+    pub then-missing : k < c → numberAt (drop next s) ≡ refuses malformed → noKept ≡ keptAs (length s) (numbersAt c (drop at s))
     then-missing h e = rw (← turn h, e)
 
     -- one number more
@@ -124,6 +124,6 @@ module _ (s : List ℕ) (at c : ℕ) where
         let p : gives (f .numbers) (drop next s) ≡ numbersAt c (drop at s) =
         ap (λ (l : List ℕ). gives l (drop next s)) (sym (append-nil (f .numbers))) ∙ q in
         let n : kept ≡ length (take 25 (f .numbers)) = e ∙ row-count (f .numbers) c (omega (arith, f .count, f .few)) in
-        let made : Kept = record { fault = false; count = kept; list = list; next = next } in
+        let made : KeptList = record { fault = false; count = kept; list = list; next = next } in
         let u : made ≡ keptAs (length s) (gives (f .numbers) (drop next s)) = rw (n, f .same, ← next-at s next (f .room)) in
         u ∙ ap (keptAs (length s)) p

@@ -16,7 +16,7 @@ use Rattle.rules.specs.Run.{answers}
 use Rattle.rules.specs.Journal.{Journal, journal, answerLines, ranOn, ranFrom, runHost}
 use Rattle.rules.specs.Listing.{Hosted, intoBuffer}
 use Rattle.sheet.proofs.Accepted.{refused-line}
-use Rattle.sheet.proofs.Longest.{read-bounded}
+use Rattle.sheet.proofs.Bytes.{read-bounded}
 use Rattle.listing.proofs.Fields.{line-length}
 use Rattle.listing.specs.declared.host.Hosted as C
 use Rattle.listing.specs.Host.{hostedOf}

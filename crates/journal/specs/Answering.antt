@@ -75,14 +75,14 @@ abbrev pub lineLength : Bool → ℕ → ℕ
 lineLength false size = 6 * size + 1
 lineLength true size = 6 * size + 7
 
-abbrev pub Small : List ℕ → Type 0
-Small l = every (λ (x : ℕ). ltb x 1000000) l ≡ true
+abbrev pub SixColumns : List ℕ → Type 0
+SixColumns l = every (λ (x : ℕ). ltb x 1000000) l ≡ true
 
 -- each number fits its columns, and all fit the array
 pub record Fitting (p : Bool) (l : List ℕ) : Type 0 where
   pub few : length l ≤ 204
-  pub plain : p ≡ false → Small l
-  pub start : p ≡ true → Small (take 6 l)
+  pub plain : p ≡ false → SixColumns l
+  pub start : p ≡ true → SixColumns (take 6 l)
   pub moves : p ≡ true → getD l 6 0 < 10 ^ 12
-  pub rest : p ≡ true → Small (drop 7 l)
+  pub rest : p ≡ true → SixColumns (drop 7 l)
   pub least : p ≡ true → 8 ≤ length l

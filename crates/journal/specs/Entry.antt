@@ -9,7 +9,7 @@ use Rattle.rules.specs.Run.{Call, editing, reviewing, trying, planning}
 use Rattle.rules.specs.Journal.{Journal, calls, faulty, listAt, linesBy}
 use Rattle.sheet.specs.Represent.{padded}
 use Rattle.journal.specs.declared.entry.Entry.{Entry}
-use Rattle.journal.specs.declared.entry.Kept.{Kept}
+use Rattle.journal.specs.declared.entry.KeptList.{KeptList}
 
 -- A call by its kind, its numbers and its list, and where the next line starts. Of a list the first 25 numbers are kept: a longer one is
 -- longer than any sheet takes, and so are they.
@@ -45,17 +45,17 @@ entryAs size (refuses e) = noEntry
 -- ---- the parts of a line
 
 -- the first 25 numbers of a list
-abbrev pub noList : Kept
-noList = record { fault = true; count = 0; list = replicate 25 0; next = 0 }
+abbrev pub noKept : KeptList
+noKept = record { fault = true; count = 0; list = replicate 25 0; next = 0 }
 
-abbrev pub keptAs : ℕ → Part (List ℕ) → Kept
+abbrev pub keptAs : ℕ → Part (List ℕ) → KeptList
 keptAs size (gives l r) = record {
   fault = false;
   count = length (take 25 l);
   list = padded 25 (take 25 l);
   next = size - length r;
 }
-keptAs size (refuses e) = noList
+keptAs size (refuses e) = noKept
 
 -- a call's numbers, of a kind: one, two, or one and a list; what they give lacks only where the next line starts
 abbrev pub oneNumber : ℕ → List ℕ → Part (ℕ → Entry)

@@ -5,7 +5,7 @@ ghost use mathlib.Core.Bool.{true};
 ghost use lib.ListN.{length};
 ghost use lib.Seq.{paste};
 ghost use Rattle.rules.specs.Render.{fields, line};
-ghost use Rattle.journal.specs.Answering.{lineOf, lineLength, Small, Fitting};
+ghost use Rattle.journal.specs.Answering.{lineOf, lineLength, SixColumns, Fitting};
 use listing::text::put_columns;
 use listing::text::put_end;
 
@@ -22,7 +22,7 @@ pub fn line_length(plan: bool, size: usize) -> usize
 
 // Writes a field for each number.
 fn put_numbers(out: &mut [u8], at: usize, numbers: &[u64])
-    requires { ⌜ (at + 6 * length (now numbers) ≤ length (now out)) × Small (now numbers) ⌝ }
+    requires { ⌜ (at + 6 * length (now numbers) ≤ length (now out)) × SixColumns (now numbers) ⌝ }
     ensures { λ _. ⌜ now (out .exit)
         ≡ paste (now (out .entry)) at (fields (now (numbers .entry))) (6 * length (now (numbers .entry))) ⌝ }
 {
@@ -37,7 +37,7 @@ fn put_numbers(out: &mut [u8], at: usize, numbers: &[u64])
 
 // Writes a line of fields.
 fn put_line(out: &mut [u8], at: usize, numbers: &[u64])
-    requires { ⌜ (at + (6 * length (now numbers) + 1) ≤ length (now out)) × Small (now numbers) ⌝ }
+    requires { ⌜ (at + (6 * length (now numbers) + 1) ≤ length (now out)) × SixColumns (now numbers) ⌝ }
     ensures { λ _. ⌜ now (out .exit)
         ≡ paste (now (out .entry)) at (line (now (numbers .entry))) (6 * length (now (numbers .entry)) + 1) ⌝ }
 {

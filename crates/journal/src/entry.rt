@@ -6,7 +6,7 @@ ghost use lib.ListN.{length, drop};
 ghost use lib.Dec.{ltb};
 ghost use Rattle.rules.specs.Fold.{pick};
 ghost use Rattle.rules.specs.Journal.{numbersAt, listAt, callAt, callLine, journal};
-ghost use Rattle.journal.specs.Entry.{entryWith, noEntry, entryAs, noList, keptAs, oneNumber, twoNumbers, numberAndList, numbersAs, faultOf};
+ghost use Rattle.journal.specs.Entry.{entryWith, noEntry, entryAs, noKept, keptAs, oneNumber, twoNumbers, numberAndList, numbersAs, faultOf};
 use sheet::read::Field;
 use sheet::read::field_at;
 
@@ -54,16 +54,16 @@ impl Entry {
 }
 
 // What a list gives: its first 25 numbers, how many they are, and where what follows the whole list starts.
-struct Kept {
+struct KeptList {
     fault: bool,
     count: usize,
     list: [u32; 25],
     next: usize,
 }
 
-impl Kept {
+impl KeptList {
     fn none() -> Self
-        ensures { λ r. ⌜ r ≡ noList ⌝ }
+        ensures { λ r. ⌜ r ≡ noKept ⌝ }
     {
         Self {
             fault: true,
@@ -85,7 +85,7 @@ fn kept_of(k: usize) -> usize
 }
 
 // A list of count numbers, from at on. Each is read, and the first 25 are kept.
-fn numbers_at(s: &[u8], at: usize, count: usize) -> Kept
+fn numbers_at(s: &[u8], at: usize, count: usize) -> KeptList
     requires { ⌜ at ≤ length (now s) ⌝ }
     ensures { λ r. ⌜ r ≡ keptAs (length (now (s .entry))) (numbersAt count (drop at (now (s .entry)))) ⌝ }
 {
@@ -94,7 +94,7 @@ fn numbers_at(s: &[u8], at: usize, count: usize) -> Kept
     let mut next = at;
     while k < count {
         let Field::Value(x) = field_at(&s[next..]) else {
-            return Kept::none();
+            return KeptList::none();
         };
         if k < 25 {
             list[k] = x;
@@ -103,7 +103,7 @@ fn numbers_at(s: &[u8], at: usize, count: usize) -> Kept
         k += 1;
     }
     let kept = kept_of(count);
-    Kept {
+    KeptList {
         fault: false,
         count: kept,
         list,
@@ -112,12 +112,12 @@ fn numbers_at(s: &[u8], at: usize, count: usize) -> Kept
 }
 
 // How many numbers, and those numbers.
-fn list_at(s: &[u8], at: usize) -> Kept
+fn list_at(s: &[u8], at: usize) -> KeptList
     requires { ⌜ at ≤ length (now s) ⌝ }
     ensures { λ r. ⌜ r ≡ keptAs (length (now (s .entry))) (listAt (drop at (now (s .entry)))) ⌝ }
 {
     let Field::Value(count) = field_at(&s[at..]) else {
-        return Kept::none();
+        return KeptList::none();
     };
     let second = at + 6;
     numbers_at(s, second, count as usize)

@@ -48,7 +48,7 @@ showing-bound {I} x w e f (showed l g h) = bound-le I g 288000 e (λ p. le-trans
 -- ---- a sound sheet's plan
 
 -- six columns for each number, but twelve for the moves
-pub record Fits (p : Plan) : Type 0 where
+pub record SmallFigures (p : Plan) : Type 0 where
   pub makespan : p .makespan < 1000000
   pub bound : p .lowerBound < 1000000
   pub level : p .level < 1000000
@@ -66,8 +66,8 @@ module _ (I : Instance) (x : Assignment) (a : Valid I) (b : Permitted I x) (s : 
   unfolding plan
   bound-few = showing-bound x b (omega (arith, longest-small s)) (makespan-small s x) (plan-showing I x a b)
 
-  small-fits : Fits (plan I x)
-  small-fits = record {
+  small-figures : SmallFigures (plan I x)
+  small-figures = record {
     makespan = omega (arith, plan-no-later I x a b, makespan-small s x);
     bound = omega (arith, bound-few);
     level = omega (arith, level-few, makespan-small s x);
@@ -77,6 +77,6 @@ module _ (I : Instance) (x : Assignment) (a : Valid I) (b : Permitted I x) (s : 
     few = omega (arith, showing-few (plan-showing I x a b), s .machines);
   }
 
-pub plan-fits : (s : Sheet) → Sound s → Fits (planBook (bookOf s))
+pub plan-fits : (s : Sheet) → Sound s → SmallFigures (planBook (bookOf s))
 plan-fits s v =
-    small-fits (instance (bookOf s)) (places (bookOf s)) (view-valid s v) (view-permitted s v) (view-small s v)
+    small-figures (instance (bookOf s)) (places (bookOf s)) (view-valid s v) (view-permitted s v) (view-small s v)

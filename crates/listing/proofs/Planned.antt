@@ -23,7 +23,7 @@ use Rattle.planner.specs.declared.Planned.{Planned}
 use Rattle.planner.specs.Calls.{planOf}
 use Rattle.listing.specs.Text.{figures, listingText}
 use Rattle.listing.proofs.Lines.{listing-of, listing-length}
-use Rattle.listing.proofs.Figures.{Fits, plan-fits}
+use Rattle.listing.proofs.Figures.{SmallFigures, plan-fits}
 
 -- ---- arrays that are longer than what they hold
 
@@ -61,7 +61,7 @@ module _ (s : Sheet) (v : Sound s) where
   sound-as r e = rw e (view-placed s v _ new-permitted)
 
   -- what the planner answers, with the arrays of the sheet and of the new sheet
-  pub record Answered (r : Planned) (c : ℕ) : Type 0 where
+  pub record PlanAnswered (r : Planned) (c : ℕ) : Type 0 where
     pub count : c ≡ size (bookOf s)
     pub room : c ≤ 200
     pub makespan : r .makespan ≡ planBook (bookOf s) .makespan
@@ -74,11 +74,11 @@ module _ (s : Sheet) (v : Sound s) where
     pub group : r .group ≡ padded 24 (planBook (bookOf s) .group)
     pub sheet : r .sheet ≡ sheetOf (withPlaces (bookOf s) (planBook (bookOf s) .assignment))
     pub sound : Sound (r .sheet)
-    pub fits : Fits (planBook (bookOf s))
+    pub inColumns : SmallFigures (planBook (bookOf s))
 
-  pub answered : (r : Planned) (c : ℕ) → r ≡ planOf (bookOf s) → c ≡ n (instance (bookOf s)) → Answered r c
+  pub plan-answered : (r : Planned) (c : ℕ) → r ≡ planOf (bookOf s) → c ≡ n (instance (bookOf s)) → PlanAnswered r c
   unfolding planOf
-  answered r c e f = record {
+  plan-answered r c e f = record {
     count = f ∙ jobs-count (bookOf s);
     room = omega (arith, view-batches s v);
     makespan = ap (λ (q : Planned). q .makespan) e;
@@ -91,16 +91,16 @@ module _ (s : Sheet) (v : Sound s) where
     group = ap (λ (q : Planned). q .group) e;
     sheet = ap (λ (q : Planned). q .sheet) e;
     sound = sound-as r e;
-    fits = plan-fits s v;
+    inColumns = plan-fits s v;
   }
 
   -- the listing's length, and its text
-  pub answered-length : (r : Planned) (c : ℕ) → Answered r c
+  pub answered-length : (r : Planned) (c : ℕ) → PlanAnswered r c
       → length (listing (bookOf s) (planBook (bookOf s))) ≡ 43 + (6 * (r .size + 1) + 1) + 19 * c
   answered-length r c a =
       listing-length (bookOf s) (planBook (bookOf s)) ∙ omega (arith, a .size, a .count)
 
-  pub answered-text : (r : Planned) (c : ℕ) (minutes places : List ℕ) → Answered r c
+  pub answered-text : (r : Planned) (c : ℕ) (minutes places : List ℕ) → PlanAnswered r c
       → minutes ≡ padded 200 (map (λ (j : Job). j .minutes) (instance (bookOf s) .jobs))
       → places ≡ padded 200 (In.places (bookOf (r .sheet)))
       → listingText (figures (r .makespan) (r .bound) (r .level) (r .lifts) (r .pushes) (r .moves)) (r .size) (r .group) c minutes places

@@ -1,5 +1,5 @@
 -- What the program prints, from what the host gets with a buffer that is long enough for every listing.
-use Prim.Native.Nat.{ℕ, _+_, _≤_, _<_}
+use Prim.Native.Nat.{ℕ, _≤_, _<_}
 use mathlib.Core.Path.{_≡_, refl, sym, ap, _∙_}
 use mathlib.Core.Bool.{true}
 use mathlib.Core.List.{List, [], _∷_, _++_}
@@ -21,14 +21,14 @@ use Rattle.listing.specs.Text.{atFront}
 use Rattle.listing.specs.Host.{hostedOf}
 use Rattle.listing.proofs.Fields.{line-length}
 use Rattle.listing.proofs.Lines.{listing-length}
-use Rattle.listing.proofs.Figures.{Fits, plan-fits}
-use Rattle.sheet.proofs.Longest.{read-bounded}
+use Rattle.listing.proofs.Figures.{SmallFigures, plan-fits}
+use Rattle.sheet.proofs.Bytes.{read-bounded}
 use Rattle.sheet.proofs.Accepted.{refused-line}
 
 -- a line of 43 bytes, one of at most 151, and 200 of 19
 pub longest-listing : (k : Book) → sound k ≡ true → length (listing k (planBook k)) ≤ 3994
 longest-listing k v =
-    let f : Fits (planBook k) = rw (book-sheet k v) at (plan-fits (sheetOf k) (sheet-sound k v)) in
+    let f : SmallFigures (planBook k) = rw (book-sheet k v) at (plan-fits (sheetOf k) (sheet-sound k v)) in
     omega (arith, listing-length k (planBook k), f .few, sound-is k v .room)
 
 number-range : (g : Refusal) → (1 ≤ number g) × (number g ≤ 9)
@@ -48,7 +48,7 @@ pub record ListingIn (s buffer : List ℕ) (h : Hosted) (after : List ℕ) : Typ
   pub text : after ≡ atFront (program s) buffer
 
 -- nothing is, and there is a refusal to print
-pub record Unlisted (s buffer : List ℕ) (h : Hosted) (after : List ℕ) : Type 0 where
+pub record RefusalPrinted (s buffer : List ℕ) (h : Hosted) (after : List ℕ) : Type 0 where
   pub row : program s ≡ line (h .refusal ∷ h .line ∷ [])
   pub same : after ≡ buffer
   pub number : h .refusal < 1000000
@@ -81,9 +81,9 @@ module _ (s buffer after : List ℕ) (h : Hosted) (e : hostedOf h after ≡ host
   listed-case (refusedAt g j) q z =
       absurd (omega (arith, ap (λ (x : L.Hosted). x .refusal) (turned g j q), number-range g .0))
 
-  unlisted-case : (o : Reading) → read s ≡ o → (h .refusal ≡ 0 → ⊥) → Unlisted s buffer h after
-  unlisted-case (accepted k) q n = absurd (n (ap (λ (x : L.Hosted). x .refusal) (told k q)))
-  unlisted-case (refusedAt g j) q n =
+  refused-case : (o : Reading) → read s ≡ o → (h .refusal ≡ 0 → ⊥) → RefusalPrinted s buffer h after
+  refused-case (accepted k) q n = absurd (n (ap (λ (x : L.Hosted). x .refusal) (told k q)))
+  refused-case (refusedAt g j) q n =
       let t = turned g j q in
       let a : h .refusal ≡ number g = ap (λ (x : L.Hosted). x .refusal) t in
       let b : h .line ≡ j = ap (λ (x : L.Hosted). x .line) t in
@@ -97,11 +97,11 @@ module _ (s buffer after : List ℕ) (h : Hosted) (e : hostedOf h after ≡ host
   pub is-listed : h .refusal ≡ 0 → ListingIn s buffer h after
   is-listed z = listed-case (read s) refl z
 
-  pub is-unlisted : (h .refusal ≡ 0 → ⊥) → Unlisted s buffer h after
-  is-unlisted n = unlisted-case (read s) refl n
+  pub is-refused : (h .refusal ≡ 0 → ⊥) → RefusalPrinted s buffer h after
+  is-refused n = refused-case (read s) refl n
 
 -- the refusal's line is all that is printed
-pub row-printed : (s buffer after : List ℕ) (h : Hosted) (end : List ℕ) → Unlisted s buffer h after
+pub row-printed : (s buffer after : List ℕ) (h : Hosted) (end : List ℕ) → RefusalPrinted s buffer h after
     → end ≡ line (h .refusal ∷ h .line ∷ []) ++ drop 13 after → (13 ≡ length (program s)) × (end ≡ atFront (program s) buffer)
 row-printed s buffer after h end u e =
     let w : length (program s) ≡ 13 = ap length (u .row) ∙ line-length (h .refusal ∷ h .line ∷ []) in

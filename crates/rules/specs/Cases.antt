@@ -1,6 +1,6 @@
 -- Document 01, "Cases": P1 to P10 in one table, with one theorem over it. The rows from 11 on are more of document 01's cases
 -- and ours: each tells a wrong rule from the right one.
-use Prim.Native.Nat.{ℕ, _+_}
+use Prim.Native.Nat.{ℕ}
 use Prim.Native.String.{String}
 use mathlib.Core.Path.{_≡_, refl}
 use mathlib.Core.List.{List, [], _∷_, map, _++_}
@@ -10,7 +10,7 @@ use Rattle.rules.specs.Refusal.{malformed, badSize, badLength, badList, 
 use Rattle.rules.specs.Sheet.{Batch, isBatch, goodInstruments, goodMinutes, isInstrument, distinct, goodList, goodBatch, sound}
 use Rattle.rules.specs.Field.{Field, value, fault, digits, loneZero, blanks, field}
 use Rattle.rules.specs.Read.{Reading, accepted, refusedAt, numberAt, endOfLine, headLine, instrumentsAt, batchLine, batchLines, read}
-use Rattle.rules.specs.Render.{columns, fields, renderBatches, render, fitsBatch, fits}
+use Rattle.rules.specs.Render.{columns, fields, renderBatches, render, batchWithinLimits, withinLimits}
 use Rattle.rules.specs.Edit.{add, withdraw, requalify, move, kept, edit}
 use Rattle.rules.specs.Load.{load, makespan, longest, total, elsewhere, improvesAt, improves, review}
 use Rattle.rules.specs.Settle.{mover, target, moved, squares, settleBy, settle}
@@ -281,5 +281,5 @@ said t = map (λ (r : Row). r .says) t
 
 -- the rules say what the table says
 cases : asked table ≡ said table
-unfolding table bytes lines _and_ _or_ mem every sumTo most maxTo orElse firstTo anyTo allTo lesser leastTo greater greatestTo thoseTo listTo isBatch goodInstruments goodMinutes isInstrument distinct goodList goodBatch sound digits loneZero blanks field numberAt endOfLine headLine instrumentsAt batchLine batchLines read columns fields renderBatches render fitsBatch fits kept edit load makespan longest total elsewhere improvesAt improves review mover target moved squares settleBy settle atLevel underloaded overloaded unplaced machineArc jobArc liftOver pushOr deed jobDeed machineDeed someUnderloaded actMachine actJob act stepsBy liftBound pushBound endedBy overflows reach reachBy closure group trial searchBy balance within confined share lowerBound plan answer next answers batchListing listing program host
+unfolding table bytes lines _and_ _or_ mem every sumTo most maxTo orElse firstTo anyTo allTo lesser leastTo greater greatestTo thoseTo listTo isBatch goodInstruments goodMinutes isInstrument distinct goodList goodBatch sound digits loneZero blanks field numberAt endOfLine headLine instrumentsAt batchLine batchLines read columns fields renderBatches render batchWithinLimits withinLimits kept edit load makespan longest total elsewhere improvesAt improves review mover target moved squares settleBy settle atLevel underloaded overloaded unplaced machineArc jobArc liftOver pushOr deed jobDeed machineDeed someUnderloaded actMachine actJob act stepsBy liftBound pushBound endedBy overflows reach reachBy closure group trial searchBy balance within confined share lowerBound plan answer next answers batchListing listing program host
 cases = refl

@@ -35,11 +35,11 @@ unfoldable pub render : Book → List ℕ
 render d = line (d .m ∷ size d ∷ []) ++ renderBatches (d .batches)
 
 -- a description within the limits: as a sound book, but a place may be 0
-unfoldable pub fitsBatch : ℕ → Batch → Bool
-fitsBatch m b = goodMinutes (b .minutes) and goodList m (b .list) and (eqb (b .place) 0 or mem (b .place) (b .list))
+unfoldable pub batchWithinLimits : ℕ → Batch → Bool
+batchWithinLimits m b = goodMinutes (b .minutes) and goodList m (b .list) and (eqb (b .place) 0 or mem (b .place) (b .list))
 
-unfoldable pub fits : Book → Bool
-fits d = goodInstruments (d .m) and leb (size d) maxBatches and every (fitsBatch (d .m)) (d .batches)
+unfoldable pub withinLimits : Book → Bool
+withinLimits d = goodInstruments (d .m) and leb (size d) maxBatches and every (batchWithinLimits (d .m)) (d .batches)
 
 -- the book of a description: a place not given is the first listed
 abbrev pub placed : Batch → Batch

@@ -5,7 +5,7 @@ use mathlib.Core.Bool.{Bool, true, false}
 use mathlib.Core.List.{List}
 use lib.ListN.{length, replicate}
 use lib.Dec.{leb, ltb, eqb}
-use Rattle.rules.specs.Fold.{_and_, _or_, pick, at, put, sumTo, firstTo, anyTo, leastTo}
+use Rattle.rules.specs.Fold.{_and_, pick, at, put, sumTo, firstTo, anyTo, leastTo}
 use Rattle.rules.specs.Instance.{Instance, Assignment, n, listOf}
 use Rattle.rules.specs.Load.{load, longest, elsewhere}
 

@@ -93,8 +93,8 @@ module _ (s : List ℕ) (at m n : ℕ) where
         record {
           batches = f .batches ++ (b ∷ []);
           count = omega (arith, length-append (f .batches) (b ∷ []), f .count);
-          fit = every-append narrow (f .batches) (b ∷ []) (f .fit) (every-one narrow b (le-leb (length (b .list)) 24 (g .fits)));
-          same = e ∙ append-law (booked m (f .batches)) b (omega (arith, f .count)) (f .fit) (g .fits);
+          fit = every-append narrow (f .batches) (b ∷ []) (f .fit) (every-one narrow b (le-leb (length (b .list)) 24 (g .short)));
+          same = e ∙ append-law (booked m (f .batches)) b (omega (arith, f .count)) (f .fit) (g .short);
           room = g .room;
           few = omega arith;
           rest = step x h g l;

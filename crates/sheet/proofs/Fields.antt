@@ -61,11 +61,11 @@ follows-ones b (suc v) h = omega (arith, leb-true 48 b (and-left _ _ h), leb-tru
 
 -- ---- what is left after columns of value v, which is 0 where all of them are blank
 
-abbrev pub after : ℕ → List ℕ → Field
-after zero l = blanks l
-after (suc v) l = digits l (suc v)
+abbrev pub fieldAfter : ℕ → List ℕ → Field
+fieldAfter zero l = blanks l
+fieldAfter (suc v) l = digits l (suc v)
 
-after-some : (w : ℕ) (l : List ℕ) → (w ≡ 0 → ⊥) → after w l ≡ digits l w
+after-some : (w : ℕ) (l : List ℕ) → (w ≡ 0 → ⊥) → fieldAfter w l ≡ digits l w
 after-some zero l h = absurd (h refl)
 after-some (suc w) l h = refl
 
@@ -93,10 +93,10 @@ blanks-zero : (b : ℕ) (l : List ℕ) → b ≡ 48 → blanks (b ∷ l) ≡ lon
 unfolding blanks
 blanks-zero b l e = rw e
 
-after-digit : (b v : ℕ) (l : List ℕ) → isDigit b ≡ true → (10 * v + b % 16 ≡ 0 → ⊥) → digits (b ∷ l) v ≡ after (10 * v + b % 16) l
+after-digit : (b v : ℕ) (l : List ℕ) → isDigit b ≡ true → (10 * v + b % 16 ≡ 0 → ⊥) → digits (b ∷ l) v ≡ fieldAfter (10 * v + b % 16) l
 after-digit b v l e z = digits-more b v l e ∙ rw (← ones b e) (sym (after-some (10 * v + b % 16) l z))
 
-pub after-more : (b v : ℕ) (l : List ℕ) → follows b v ≡ true → after v (b ∷ l) ≡ after (10 * v + b % 16) l
+pub after-more : (b v : ℕ) (l : List ℕ) → follows b v ≡ true → fieldAfter v (b ∷ l) ≡ fieldAfter (10 * v + b % 16) l
 after-more b zero l h =
     or-cases (eqb b 32) (leb 49 b and leb b 57) h
     (λ t. let e = eqb-true b 32 t in blanks-blank b l e ∙ rw e)
@@ -107,7 +107,7 @@ after-more b zero l h =
     ∙ after-digit b 0 l (and-mk _ _ (le-leb 48 b (omega arith)) (le-leb b 57 u)) (λ e. omega arith))
 after-more b (suc v) l h = after-digit b (suc v) l h (λ e. omega arith)
 
-pub after-fault : (b v x : ℕ) (l : List ℕ) → follows b v ≡ false → after v (b ∷ x ∷ l) ≡ fault
+pub after-fault : (b v x : ℕ) (l : List ℕ) → follows b v ≡ false → fieldAfter v (b ∷ x ∷ l) ≡ fault
 unfolding loneZero
 after-fault b zero x l h =
     byTest (eqb b 32)
@@ -125,7 +125,7 @@ after-fault b (suc v) x l h = digits-fault b (suc v) (x ∷ l) h
 
 -- ---- the last column
 
-pub last-digit : (b v : ℕ) → 48 ≤ b → b ≤ 57 → after v (b ∷ []) ≡ value (10 * v + (b - 48))
+pub last-digit : (b v : ℕ) → 48 ≤ b → b ≤ 57 → fieldAfter v (b ∷ []) ≡ value (10 * v + (b - 48))
 unfolding loneZero digits
 last-digit b zero l u =
     byTest (eqb b 48)
@@ -135,7 +135,7 @@ last-digit b zero l u =
     ∙ digits-more b 0 [] (and-mk _ _ (le-leb 48 b l) (le-leb b 57 u)))
 last-digit b (suc v) l u = digits-more b (suc v) [] (and-mk _ _ (le-leb 48 b l) (le-leb b 57 u))
 
-pub last-fault : (b v : ℕ) → isDigit b ≡ false → after v (b ∷ []) ≡ fault
+pub last-fault : (b v : ℕ) → isDigit b ≡ false → fieldAfter v (b ∷ []) ≡ fault
 unfolding blanks
 last-fault b zero h =
     byTest (eqb b 32)
@@ -154,10 +154,10 @@ module _ (s : List ℕ) (i : ℕ) where
   pub blanks-two : i + 1 < length s → (getD s i 0 ≡ 32) × (getD s (i + 1) 0 ≡ 32) → blanks (drop i s) ≡ blanks (drop (i + 1 + 1) s)
   blanks-two h e = blanks-more s i (omega arith) (e .0) ∙ blanks-more s (i + 1) h (e .1)
 
-  pub column-more : (v : ℕ) → i < length s → follows (getD s i 0) v ≡ true → after v (drop i s) ≡ after (10 * v + getD s i 0 % 16) (drop (i + 1) s)
+  pub column-more : (v : ℕ) → i < length s → follows (getD s i 0) v ≡ true → fieldAfter v (drop i s) ≡ fieldAfter (10 * v + getD s i 0 % 16) (drop (i + 1) s)
   column-more v h e = rw (drop-cons s i 0 h) (after-more (getD s i 0) v (drop (suc i) s) e ∙ rw add-one)
 
-  pub column-fault : (v : ℕ) → i + 1 < length s → follows (getD s i 0) v ≡ false → after v (drop i s) ≡ fault
+  pub column-fault : (v : ℕ) → i + 1 < length s → follows (getD s i 0) v ≡ false → fieldAfter v (drop i s) ≡ fault
   column-fault v h e =
       rw (drop-cons s i 0 (omega arith), drop-cons s (suc i) 0 (omega (arith, add-one i)))
       (after-fault (getD s i 0) v (getD s (suc i) 0) (drop (suc (suc i)) s) e)
@@ -167,14 +167,14 @@ module _ (s : List ℕ) (v : ℕ) (h : length s ≡ 6) where
   last-column : drop 5 s ≡ getD s 5 0 ∷ []
   last-column = drop-cons s 5 0 (omega arith) ∙ rw (drop-of-length-le s {i = 6} (omega arith))
 
-  pub column-last : 48 ≤ getD s 5 0 → getD s 5 0 ≤ 57 → after v (drop 5 s) ≡ value (10 * v + (getD s 5 0 - 48))
+  pub column-last : 48 ≤ getD s 5 0 → getD s 5 0 ≤ 57 → fieldAfter v (drop 5 s) ≡ value (10 * v + (getD s 5 0 - 48))
   column-last l u = rw last-column (last-digit (getD s 5 0) v l u)
 
-  pub column-low : getD s 5 0 < 48 → after v (drop 5 s) ≡ fault
+  pub column-low : getD s 5 0 < 48 → fieldAfter v (drop 5 s) ≡ fault
   unfolding _and_
   column-low l = rw last-column (last-fault (getD s 5 0) v (rw (lt-leb 48 (getD s 5 0) l)))
 
-  pub column-high : 57 < getD s 5 0 → after v (drop 5 s) ≡ fault
+  pub column-high : 57 < getD s 5 0 → fieldAfter v (drop 5 s) ≡ fault
   unfolding _and_
   column-high u = rw last-column (last-fault (getD s 5 0) v (rw (le-leb 48 (getD s 5 0) (omega arith), lt-leb (getD s 5 0) 57 u)))
 

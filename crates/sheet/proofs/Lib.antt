@@ -9,7 +9,7 @@ pub mod Edits
 pub mod Fields
 pub mod Lines
 pub mod Extent
-pub mod Longest
+pub mod Bytes
 pub mod PartsRead
 pub mod BatchesRead
 pub mod Keeps

@@ -142,11 +142,11 @@ row-length k l h e =
     let c = length-replicate {A = ℕ} (24 - length (take k l)) 0 in
     omega (arith, length-take k l)
 
-pub row-front : (k : ℕ) (l : List ℕ) → Row k l → k ≤ 24 → length (take k l) ≡ k
-row-front k l r h = length-take-le k l (omega (arith, r .size))
+pub row-used : (k : ℕ) (l : List ℕ) → Row k l → k ≤ 24 → length (take k l) ≡ k
+row-used k l r h = length-take-le k l (omega (arith, r .size))
 
 pub row-padded : (k : ℕ) (l : List ℕ) → Row k l → k ≤ 24 → padded 24 (take k l) ≡ l
-row-padded k l r h = rw (row-front k l r h, ← r .rest) (take-append-drop k l)
+row-padded k l r h = rw (row-used k l r h, ← r .rest) (take-append-drop k l)
 
 pub row-more : (k : ℕ) (l : List ℕ) (x : ℕ) → Row k l → k < 24 → Row (k + 1) (set l k x)
 row-more k l x r h =

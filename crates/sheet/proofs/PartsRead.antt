@@ -15,7 +15,7 @@ use Rattle.rules.specs.Read as D
 use Rattle.sheet.specs.declared.Refusal.{Refusal}
 use Rattle.sheet.specs.declared.Refusal.the-variants.{Nothing}
 use Rattle.sheet.specs.declared.read.Head.{Head}
-use Rattle.sheet.specs.declared.read.Listed.{Listed}
+use Rattle.sheet.specs.declared.read.ListRead.{ListRead}
 use Rattle.sheet.specs.declared.read.Line.{Line}
 use Rattle.sheet.specs.Represent.{padded}
 use Rattle.sheet.specs.Answers.{coded, readAs, readOf}
@@ -50,26 +50,26 @@ suffix s at k u h l v =
 module _ (s : List ℕ) (at : ℕ) (h : at ≤ length s) where
   -- ---- a list
 
-  pub record ListGiven (m c : ℕ) (i : Listed) : Type 0 where
+  pub record ListGiven (m c : ℕ) (i : ListRead) : Type 0 where
     pub part : instrumentsAt m c [] (drop at s) ≡ gives (take c (i .list)) (drop (i .next) s)
     pub room : i .next ≤ length s
     pub row : padded 24 (take c (i .list)) ≡ i .list
 
-  pub list-given : (m c : ℕ) (i : Listed) → i ≡ listAs (length s) (instrumentsAt m c [] (drop at s)) → i .refusal ≡ Nothing
+  pub list-given : (m c : ℕ) (i : ListRead) → i ≡ listAs (length s) (instrumentsAt m c [] (drop at s)) → i .refusal ≡ Nothing
       → ListGiven m c i
   list-given m c i e n = from (instrumentsAt m c [] (drop at s)) refl e
     where
       from : (p : Part (List ℕ)) → instrumentsAt m c [] (drop at s) ≡ p → i ≡ listAs (length s) p → ListGiven m c i
-      from (refuses g) q d = absurd (coded-none g (sym (ap (λ (x : Listed). x .refusal) d) ∙ n))
+      from (refuses g) q d = absurd (coded-none g (sym (ap (λ (x : ListRead). x .refusal) d) ∙ n))
       from (gives l u) q d =
           took (instruments-near m c [] (6 * c) (drop at s) (omega arith)) q (λ a k j v.
           let b : take c (i .list) ≡ l =
-          ap (λ (x : Listed). take c (x .list)) d ∙ take-at l (replicate (24 - length l) 0) c (omega (arith, a)) in
-          let f : drop (i .next) s ≡ u = ap (λ (x : Listed). drop (x .next) s) d ∙ suffix s at k u h j v in
+          ap (λ (x : ListRead). take c (x .list)) d ∙ take-at l (replicate (24 - length l) 0) c (omega (arith, a)) in
+          let f : drop (i .next) s ≡ u = ap (λ (x : ListRead). drop (x .next) s) d ∙ suffix s at k u h j v in
           record {
             part = q ∙ ap₂ gives (sym b) (sym f);
-            room = omega (arith, ap (λ (x : Listed). x .next) d);
-            row = ap (padded 24) b ∙ sym (ap (λ (x : Listed). x .list) d);
+            room = omega (arith, ap (λ (x : ListRead). x .next) d);
+            row = ap (padded 24) b ∙ sym (ap (λ (x : ListRead). x .list) d);
           })
 
   -- ---- line 1
@@ -102,7 +102,7 @@ module _ (s : List ℕ) (at : ℕ) (h : at ≤ length s) where
     pub batch : Batch
     pub part : batchLine m (drop at s) ≡ gives batch (drop (i .next) s)
     pub room : i .next ≤ length s
-    pub fits : short batch
+    pub short : short batch
     pub minutes : i .minutes ≡ batch .minutes
     pub place : i .place ≡ batch .place
     pub count : i .count ≡ length (batch .list)
@@ -121,7 +121,7 @@ module _ (s : List ℕ) (at : ℕ) (h : at ≤ length s) where
             batch = b;
             part = q ∙ ap (gives b) (sym f);
             room = omega (arith, ap (λ (x : Line). x .next) d);
-            fits = a;
+            short = a;
             minutes = ap (λ (x : Line). x .minutes) d;
             place = ap (λ (x : Line). x .place) d;
             count = ap (λ (x : Line). x .count) d;
@@ -130,14 +130,14 @@ module _ (s : List ℕ) (at : ℕ) (h : at ≤ length s) where
 
 -- ---- refusals are handed on
 
-pub list-refused : (s : List ℕ) (at m t p c j : ℕ) (i : Listed) → i ≡ listAs (length s) (instrumentsAt m c [] (drop at s))
+pub list-refused : (s : List ℕ) (at m t p c j : ℕ) (i : ListRead) → i ≡ listAs (length s) (instrumentsAt m c [] (drop at s))
     → (i .refusal ≡ Nothing → ⊥) → noLine (i .refusal) j ≡ lineAs (length s) j (lineList m t p c (drop at s))
 list-refused s at m t p c j i e n = from (instrumentsAt m c [] (drop at s)) e
   where
     from : (q : Part (List ℕ)) → i ≡ listAs (length s) q
         → noLine (i .refusal) j ≡ lineAs (length s) j (andThen q (λ l r. lineEnd t p l r))
-    from (gives l r) d = absurd (n (ap (λ (x : Listed). x .refusal) d))
-    from (refuses g) d = ap (λ (x : Listed). noLine (x .refusal) j) d
+    from (gives l r) d = absurd (n (ap (λ (x : ListRead). x .refusal) d))
+    from (refuses g) d = ap (λ (x : ListRead). noLine (x .refusal) j) d
 
 pub head-refused : (s : List ℕ) (i : Head) → i ≡ headAs (length s) 1 (headLine s) → (i .refusal ≡ Nothing → ⊥)
     → unread (i .refusal) (i .line) ≡ readOf s

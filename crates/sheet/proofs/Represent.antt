@@ -8,7 +8,7 @@ use lib.ListN.{length, getD, take, drop, replicate, length-append, length-map, L
 use lib.Seq.{take-all, take-at, take-suc, drop-append-add}
 use lib.Dec.{leb}
 use borrow.Author.Tests.{leb-true, le-leb}
-use Rattle.rules.specs.Fold.{_and_, every}
+use Rattle.rules.specs.Fold.{every}
 use Rattle.rules.specs.Sheet.{Book, Batch, size, sound, noBatchHere, goodInstruments, goodList, goodBatch}
 use Rattle.theory.proofs.Logic.{and-left, and-right, and-mk}
 use Rattle.theory.proofs.Sound.{sound-is, good-is}

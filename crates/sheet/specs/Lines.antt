@@ -17,7 +17,7 @@ use Rattle.sheet.specs.declared.Refusal.the-variants.{Nothing}
 use Rattle.sheet.specs.declared.read.Field.{Field}
 use Rattle.sheet.specs.declared.read.Field.the-variants.{Value, Fault}
 use Rattle.sheet.specs.declared.read.Head.{Head}
-use Rattle.sheet.specs.declared.read.Listed.{Listed}
+use Rattle.sheet.specs.declared.read.ListRead.{ListRead}
 use Rattle.sheet.specs.declared.read.Line.{Line}
 use Rattle.sheet.specs.declared.read.Placing.{Placing}
 use Rattle.sheet.specs.declared.read.Placing.the-variants.{On, Unlisted}
@@ -50,10 +50,10 @@ headAs w j (gives h r) = record { refusal = Nothing; line = 0; m = h .m; n = h .
 headAs w j (refuses e) = noHead (coded e) j
 
 -- a list of instruments
-abbrev pub noList : Refusal → Listed
+abbrev pub noList : Refusal → ListRead
 noList e = record { refusal = e; list = replicate 24 0; next = 0 }
 
-abbrev pub listAs : ℕ → Part (List ℕ) → Listed
+abbrev pub listAs : ℕ → Part (List ℕ) → ListRead
 listAs w (gives l r) = record { refusal = Nothing; list = padded 24 l; next = w - length r }
 listAs w (refuses e) = noList (coded e)
 

@@ -30,7 +30,7 @@ fn shift(v: u32) -> u32
 }
 
 // Whether column b, which is not the last, may follow columns of value v. v is 0 where they are all blank.
-fn fits(b: u8, v: u32) -> bool
+fn may_follow(b: u8, v: u32) -> bool
     ensures { λ r. ⌜ r ≡ follows b v ⌝ }
 {
     if b < b' ' {
@@ -52,7 +52,7 @@ fn number_from(s: &[u8], from: usize) -> u32
     let mut v: u32 = 0;
     while i < 5 {
         let b = s[i];
-        if !fits(b, v) {
+        if !may_follow(b, v) {
             return FAULT;
         }
         v = 10 * v + wide(b) % 16;

@@ -131,13 +131,13 @@ fn names(l: &[u8], x: u32) -> bool
 }
 
 // What a list of instruments gives: the list, 0 past its end, and where what follows it starts.
-struct Listed {
+struct ListRead {
     refusal: Refusal,
     list: [u8; 24],
     next: usize,
 }
 
-impl Listed {
+impl ListRead {
     fn refused(refusal: Refusal) -> Self
         ensures { λ r. ⌜ r ≡ noList refusal ⌝ }
     {
@@ -150,7 +150,7 @@ impl Listed {
 }
 
 // c instruments from at on, each judged at its own field. Those so far are marked in seen.
-fn instruments(s: &[u8], at: usize, m: usize, c: usize) -> Listed
+fn instruments(s: &[u8], at: usize, m: usize, c: usize) -> ListRead
     requires { ⌜ (at ≤ length (now s)) × (m ≤ 24) × (c ≤ m) ⌝ }
     ensures { λ r. ⌜ r ≡ listAs (length (now (s .entry))) (instrumentsAt m c [] (drop at (now (s .entry)))) ⌝ }
 {
@@ -160,24 +160,24 @@ fn instruments(s: &[u8], at: usize, m: usize, c: usize) -> Listed
     let mut next = at;
     while k < c {
         let Field::Value(x) = field_at(&s[next..]) else {
-            return Listed::refused(Refusal::Malformed);
+            return ListRead::refused(Refusal::Malformed);
         };
         if x < 1 {
-            return Listed::refused(Refusal::BadList);
+            return ListRead::refused(Refusal::BadList);
         }
         if m < x as usize {
-            return Listed::refused(Refusal::BadList);
+            return ListRead::refused(Refusal::BadList);
         }
         let mark = x as usize - 1;
         if seen[mark] != 0 {
-            return Listed::refused(Refusal::BadList);
+            return ListRead::refused(Refusal::BadList);
         }
         seen[mark] = 1;
         list[k] = x as u8;
         next += 6;
         k += 1;
     }
-    Listed {
+    ListRead {
         refusal: Refusal::Nothing,
         list,
         next,

@@ -1,6 +1,6 @@
 -- The search over levels: it ends with level f failed, or none, and p = f + 1 kept, whose assignment is permitted, ends no later
 -- than the standing one, and has no load above p + longest.
-use Prim.Native.Nat.{ℕ, zero, suc, _+_, _-_, _≤_, _<_}
+use Prim.Native.Nat.{ℕ, zero, suc, _+_, _≤_, _<_}
 use mathlib.Core.Path.{_≡_, refl}
 use mathlib.Core.Bool.{Bool, true, false}
 use mathlib.Core.List.{List, []}
@@ -30,7 +30,7 @@ pub data Counts (I : Instance) (x : Assignment) : ℕ → ℕ → ℕ → Type 0
   made : (a : ℕ) → Counts I x a (ended I x a .lifts) (ended I x a .pushes)
 
 module _ (I : Instance) (x : Assignment) (v : Valid I) (w : Permitted I x) where
-  pub record Kept (s : Search) : Type 0 where
+  pub record SearchKept (s : Search) : Type 0 where
     pub gap : s .failed1 ≤ s .level
     pub below : s .level ≤ makespan I x
     pub permitted : Permitted I (s .assignment)
@@ -41,7 +41,7 @@ module _ (I : Instance) (x : Assignment) (v : Valid I) (w : Permitted I x) where
     pub lifts : s .lifts ≤ liftBound I
     pub pushes : s .pushes ≤ pushBound I
 
-  kept-standing : Kept (standing I x)
+  kept-standing : SearchKept (standing I x)
   kept-standing = record {
     gap = omega arith;
     below = le-refl _;
@@ -55,7 +55,7 @@ module _ (I : Instance) (x : Assignment) (v : Valid I) (w : Permitted I x) where
   }
 
   -- one trial more, at a level from f + 1 up to below p
-  learned : (s : Search) (a : ℕ) → Kept s → s .failed1 ≤ a → a < s .level → {t : Tried} → Outcome I x v w a t → Kept (learn s a t)
+  learned : (s : Search) (a : ℕ) → SearchKept s → s .failed1 ≤ a → a < s .level → {t : Tried} → Outcome I x v w a t → SearchKept (learn s a t)
   learned s a k l u (passes p) = record {
     gap = l;
     below = omega (arith, k .below);
@@ -85,11 +85,11 @@ module _ (I : Instance) (x : Assignment) (v : Valid I) (w : Permitted I x) where
   closer s a l u (passed y r b) = omega arith
   closer s a l u (failed g r b) = omega arith
 
-  pub record Found (s : Search) : Type 0 where
-    pub kept : Kept s
+  pub record SearchFound (s : Search) : Type 0 where
+    pub kept : SearchKept s
     pub closed : s .failed1 ≡ s .level
 
-  search-found : (t : ℕ) (s : Search) → Kept s → s .level ≤ t + s .failed1 → (more : Bool) → open-gap s ≡ more → Found (searchBy I x t s more)
+  search-found : (t : ℕ) (s : Search) → SearchKept s → s .level ≤ t + s .failed1 → (more : Bool) → open-gap s ≡ more → SearchFound (searchBy I x t s more)
   unfolding searchBy
   search-found zero s k h more e = record { kept = k; closed = omega (arith, k .gap) }
   search-found (suc t) s k h false e = record { kept = k; closed = omega (arith, k .gap, ltb-false (s .failed1) (s .level) e) }
@@ -100,6 +100,6 @@ module _ (I : Instance) (x : Assignment) (v : Valid I) (w : Permitted I x) where
       search-found t _ (learned s (middle s) k l u (outcome I x v w (middle s)))
       (omega (arith, closer s (middle s) l u (trial I x (middle s)))) _ refl
 
-  pub balance-found : Found (balance I x)
+  pub balance-found : SearchFound (balance I x)
   unfolding balance
   balance-found = search-found (makespan I x) (standing I x) kept-standing (omega arith) _ refl

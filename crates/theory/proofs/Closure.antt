@@ -9,7 +9,7 @@ use native.Mathlib.Omega.{arith}
 use lib.ListN.{length}
 use lib.Dec.{eqb}
 use borrow.Author.Tests.{eqb-true, eq-eqb, not-true}
-use Rattle.rules.specs.Fold.{_and_, _or_, pick, at, mem, sumTo, anyTo, thoseTo}
+use Rattle.rules.specs.Fold.{_and_, pick, at, mem, sumTo, anyTo, thoseTo}
 use Rattle.rules.specs.Instance.{Instance, Assignment, n, eligible}
 use Rattle.rules.specs.Group.{reach, reachBy, closure}
 use Rattle.theory.proofs.Logic.{byTest, conflict, not-mk, and-left, and-right, and-mk, or-left, or-right, or-cases}

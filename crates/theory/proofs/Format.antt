@@ -12,7 +12,7 @@ use Rattle.rules.specs.Fold.{_and_, _or_, mem, every}
 use Rattle.rules.specs.Sheet.{Book, Batch, size, maxBatches, goodInstruments, goodMinutes, isInstrument, distinct, goodList}
 use Rattle.rules.specs.Field.{Field, field}
 use Rattle.rules.specs.Read.{gives, fieldPart, numberAt, endOfLine, headLine, instrumentsAt, batchLine, accepted, batchLines, read}
-use Rattle.rules.specs.Render.{columns, fields, line, renderBatch, renderBatches, render, fitsBatch, fits, placed, bookSaid}
+use Rattle.rules.specs.Render.{columns, fields, line, renderBatch, renderBatches, render, batchWithinLimits, withinLimits, placed, bookSaid}
 use Rattle.theory.proofs.Logic.{and-left, and-right, and-mk, not-mk, or-cases, or-none}
 use Rattle.theory.proofs.Member.{mem-append, every-mem}
 use Rattle.theory.proofs.Field.{columns-length, field-columns}
@@ -64,14 +64,14 @@ pub line-rest : (xs r : List ℕ) → line xs ++ r ≡ fields xs ++ (10 ∷ r)
 line-rest xs r = append-assoc (fields xs) (10 ∷ []) r
 
 -- the parts of a batch within the limits
-pub record FitsBatch (m : ℕ) (b : Batch) : Type 0 where
+pub record BatchWithinLimits (m : ℕ) (b : Batch) : Type 0 where
   pub minutes : goodMinutes (b .minutes) ≡ true
   pub list : goodList m (b .list) ≡ true
   pub place : eqb (b .place) 0 or mem (b .place) (b .list) ≡ true
 
-pub fits-batch-is : (m : ℕ) (b : Batch) → fitsBatch m b ≡ true → FitsBatch m b
-unfolding fitsBatch
-fits-batch-is m b e =
+pub batch-within-is : (m : ℕ) (b : Batch) → batchWithinLimits m b ≡ true → BatchWithinLimits m b
+unfolding batchWithinLimits
+batch-within-is m b e =
     let r = and-right (goodMinutes (b .minutes)) _ e in
     record { minutes = and-left _ _ e; list = and-left _ _ r; place = and-right (goodList m (b .list)) _ r }
 
@@ -105,11 +105,11 @@ place-small m p l h g e =
 count-small : (m c : ℕ) → m ≤ 24 → leb 1 c and leb c m ≡ true → c < 10 ^ 6
 count-small m c h e = let u : c ≤ m = leb-true c m (and-right (leb 1 c) _ e) in omega arith
 
-pub batch-read : (m : ℕ) (b : Batch) (r : List ℕ) → m ≤ 24 → fitsBatch m b ≡ true
+pub batch-read : (m : ℕ) (b : Batch) (r : List ℕ) → m ≤ 24 → batchWithinLimits m b ≡ true
     → batchLine m (renderBatch b ++ r) ≡ gives (placed b) r
 unfolding batchLine endOfLine
 batch-read m b r h e =
-    let f = fits-batch-is m b e in
+    let f = batch-within-is m b e in
     let g = good-list-is m (b .list) (f .list) in
     rw (
       line-rest (b .minutes ∷ b .place ∷ length (b .list) ∷ b .list) r,
@@ -124,26 +124,26 @@ batch-read m b r h e =
 
 -- ---- the batch lines
 
-pub batches-read : (m : ℕ) (ds bs : List Batch) (j : ℕ) → m ≤ 24 → every (fitsBatch m) ds ≡ true
+pub batches-read : (m : ℕ) (ds bs : List Batch) (j : ℕ) → m ≤ 24 → every (batchWithinLimits m) ds ≡ true
     → batchLines m (length ds) j bs (renderBatches ds) ≡ accepted (record { m = m; batches = bs ++ map placed ds })
 unfolding batchLines renderBatches every
 batches-read m [] bs j h e = ap (λ (u : List Batch). accepted (record { m = m; batches = u })) (sym (append-nil bs))
 batches-read m (d ∷ ds) bs j h e =
     rw (batch-read m d (renderBatches ds) h (and-left _ _ e))
-    (batches-read m ds (bs ++ (placed d ∷ [])) (suc j) h (and-right (fitsBatch m d) _ e)
+    (batches-read m ds (bs ++ (placed d ∷ [])) (suc j) h (and-right (batchWithinLimits m d) _ e)
     ∙ ap (λ (u : List Batch). accepted (record { m = m; batches = u })) (append-assoc bs (placed d ∷ []) (map placed ds)))
 
 -- ---- the file
 
 -- the parts of a description within the limits
-pub record Fits (d : Book) : Type 0 where
+pub record WithinLimits (d : Book) : Type 0 where
   pub instruments : goodInstruments (d .m) ≡ true
   pub room : leb (size d) maxBatches ≡ true
-  pub batches : every (fitsBatch (d .m)) (d .batches) ≡ true
+  pub batches : every (batchWithinLimits (d .m)) (d .batches) ≡ true
 
-pub fits-is : (d : Book) → fits d ≡ true → Fits d
-unfolding fits
-fits-is d e =
+pub within-is : (d : Book) → withinLimits d ≡ true → WithinLimits d
+unfolding withinLimits
+within-is d e =
     let r = and-right (goodInstruments (d .m)) _ e in
     record { instruments = and-left _ _ e; room = and-left _ _ r; batches = and-right (leb (size d) maxBatches) _ r }
 
@@ -165,9 +165,9 @@ head-read m n r e f =
       f,
     )
 
-pub read-render : (d : Book) → fits d ≡ true → read (render d) ≡ accepted (bookSaid d)
+pub read-render : (d : Book) → withinLimits d ≡ true → read (render d) ≡ accepted (bookSaid d)
 unfolding read render
 read-render d e =
-    let f = fits-is d e in
+    let f = within-is d e in
     rw (head-read (d .m) (size d) (renderBatches (d .batches)) (f .instruments) (f .room))
     (batches-read (d .m) (d .batches) [] 2 (few (d .m) (f .instruments)) (f .batches))

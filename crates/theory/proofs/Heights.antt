@@ -10,7 +10,7 @@ use native.Mathlib.Omega.{arith}
 use native.Mathlib.Decide.{ℕ-discrete}
 use lib.ListN.{length, getD, set, replicate, length-replicate}
 use borrow.Author.Tests.{eqb-true, eq-eqb, ne-eqb}
-use Rattle.rules.specs.Fold.{_and_, at, put}
+use Rattle.rules.specs.Fold.{at, put}
 use Rattle.rules.specs.Instance.{Instance, Assignment, n, eligible}
 use Rattle.rules.specs.Load.{elsewhere}
 use Rattle.rules.specs.Trial.{Limits, State, Act, act, after, start, unplaced, jobArc, machineArc}

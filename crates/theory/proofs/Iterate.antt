@@ -1,5 +1,5 @@
 -- A trial as its steps made one after the other: wherever they come to rest is where the trial ends.
-use Prim.Native.Nat.{ℕ, zero, suc, _+_, _-_}
+use Prim.Native.Nat.{ℕ, zero, suc, _+_}
 use mathlib.Core.Path.{_≡_, refl, sym, ap, _∙_}
 use Rattle.rules.specs.Instance.{Instance, Assignment}
 use Rattle.rules.specs.Trial.{Limits, State, Act, rest, byJob, byMachine, act, after, start, endedBy, stepsBy, liftBound, pushBound}

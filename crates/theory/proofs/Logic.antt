@@ -13,10 +13,6 @@ conflict p q = absurd (true≢false (sym p ∙ q))
 
 -- ---- not
 
-pub not-false : (t : Bool) → not t ≡ false → t ≡ true
-not-false true e = refl
-not-false false e = conflict refl e
-
 pub not-mk : {t : Bool} → t ≡ false → not t ≡ true
 not-mk e = rw e
 

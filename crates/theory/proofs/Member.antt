@@ -7,7 +7,7 @@ use native.Mathlib.Omega.{arith}
 use lib.ListN.{length, getD, set}
 use lib.Dec.{eqb}
 use borrow.Author.Tests.{eqb-true, eq-eqb}
-use Rattle.rules.specs.Fold.{_and_, _or_, mem, every}
+use Rattle.rules.specs.Fold.{_or_, mem, every}
 use Rattle.theory.proofs.Logic.{conflict, and-left, and-right, and-mk, or-left, or-right, or-cases, or-assoc, false-or}
 
 -- ---- mem

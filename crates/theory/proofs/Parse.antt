@@ -12,7 +12,7 @@ use Rattle.rules.specs.Refusal.{Refusal}
 use Rattle.rules.specs.Sheet.{Book, Batch, maxBatches, goodInstruments, goodMinutes, isInstrument, distinct, goodList}
 use Rattle.rules.specs.Field.{Field, value, fault, field}
 use Rattle.rules.specs.Read.{Part, gives, refuses, andThen, orRefuse, fieldPart, numberAt, endOfLine, Head, headLine, instrumentsAt, batchLine, Reading, accepted, refusedAt, onLine, batchLines, read}
-use Rattle.rules.specs.Render.{columns, fields, line, renderBatch, renderBatches, render, fitsBatch, fits, placed, bookSaid}
+use Rattle.rules.specs.Render.{columns, fields, line, renderBatch, renderBatches, render, batchWithinLimits, withinLimits, placed, bookSaid}
 use Rattle.theory.proofs.Logic.{and-left, and-right, and-mk, not-mk, or-none, or-skip}
 use Rattle.theory.proofs.Member.{mem-append}
 use Rattle.theory.proofs.Field.{field-value}
@@ -117,7 +117,7 @@ instruments-wrote m (suc c) l r k s d e =
 -- the description that a batch line is written from
 record Described (m : ℕ) (r : List ℕ) (b : Batch) (s : List ℕ) : Type 0 where
   d : Batch
-  fit : fitsBatch m d ≡ true
+  fit : batchWithinLimits m d ≡ true
   same : placed d ≡ b
   wrote : renderBatch d ++ s ≡ r
 
@@ -140,7 +140,7 @@ counted m c r r₁ l s e o h =
     )
 
 batch-wrote : (m : ℕ) (r : List ℕ) (b : Batch) (s : List ℕ) → batchLine m r ≡ gives b s → Described m r b s
-unfolding batchLine fitsBatch
+unfolding batchLine batchWithinLimits
 batch-wrote m r b s e =
     then-gives (numberAt r) _ e (λ t r₁ e₁ h₁.
     or-gives (goodMinutes t) _ _ h₁ (λ o₁ h₂.
@@ -170,7 +170,7 @@ batch-wrote m r b s e =
 record Lines (m c : ℕ) (bs : List Batch) (r : List ℕ) (k : Book) : Type 0 where
   ds : List Batch
   count : length ds ≡ c
-  fit : every (fitsBatch m) ds ≡ true
+  fit : every (batchWithinLimits m) ds ≡ true
   same : record { m = m; batches = bs ++ map placed ds } ≡ k
   wrote : renderBatches ds ≡ r
 
@@ -229,8 +229,8 @@ head-wrote r h s e =
     })))))))
 
 pub read-is-render : (s : List ℕ) (k : Book) → read s ≡ accepted k
-    → (d : Book) × (fits d ≡ true) × (bookSaid d ≡ k) × (render d ≡ s)
-unfolding read fits render
+    → (d : Book) × (withinLimits d ≡ true) × (bookSaid d ≡ k) × (render d ≡ s)
+unfolding read withinLimits render
 read-is-render s k e =
     line-accepted 1 (headLine s) _ e (λ h r e₁ h₁.
     let g = head-wrote s h r e₁ in

@@ -24,7 +24,7 @@ use Rattle.theory.proofs.Makespan.{makespan-le, longest-some, longest-m
 use Rattle.theory.proofs.Settling.{settle-permitted, settle-equilibrium, settle-moves, settle-no-later}
 use Rattle.theory.proofs.Confined.{ceil-gt, share-makespan}
 use Rattle.theory.proofs.Trial.{Shows, shows-late}
-use Rattle.theory.proofs.Balancing.{Showing, unfailed, showed, Counts, Found, balance-found}
+use Rattle.theory.proofs.Balancing.{Showing, unfailed, showed, Counts, SearchFound, balance-found}
 
 -- ---- the lower bound
 
@@ -65,7 +65,7 @@ bound-witness I (i ∷ g) some =
 -- ---- planning
 
 module _ (I : Instance) (x : Assignment) (v : Valid I) (w : Permitted I x) where
-  found : Found I x v w (balance I x)
+  found : SearchFound I x v w (balance I x)
   found = balance-found I x v w
 
   pub plan-permitted : Permitted I (plan I x .assignment)

@@ -8,7 +8,7 @@ use native.Mathlib.Omega.{arith}
 use native.Mathlib.Decide.{decLe}
 use lib.Dec.{ltb}
 use borrow.Author.Tests.{ltb-true, ltb-false}
-use Rattle.rules.specs.Fold.{_or_, pick, at, mem, anyTo, thoseTo}
+use Rattle.rules.specs.Fold.{pick, at, mem, anyTo, thoseTo}
 use Rattle.rules.specs.Instance.{Instance, Assignment, n}
 use Rattle.rules.specs.Load.{load}
 use Rattle.rules.specs.Trial.{Limits, State, rest, start, endedBy, liftBound, pushBound, overloaded, unplaced, someUnderloaded, can, jobDeed, machineDeed}
@@ -69,7 +69,7 @@ crowded-above {I} {a} {x} {g} c v y w =
 -- ---- a state where nothing acts
 
 -- what a trial's steps keep
-pub record Kept (I : Instance) (a : Limits) (s : State) : Type 0 where
+pub record TrialKept (I : Instance) (a : Limits) (s : State) : Type 0 where
   pub shape : Shape I s
   pub heavy : Heavy I a s
 
@@ -85,7 +85,7 @@ module _ (I : Instance) (a : Limits) (s : State) where
   }
 
   -- nothing can act: the closure of an overloaded machine
-  pub stuck-crowded : Kept I a s → None (I .m) (λ i. can (machineDeed I a s i))
+  pub stuck-crowded : TrialKept I a s → None (I .m) (λ i. can (machineDeed I a s i))
       → (i : ℕ) → 0 < i → i ≤ I .m → overloaded I a s i ≡ true → Crowded I a (s .assignment) (closure I (s .assignment) i)
   unfolding Heavy
   stuck-crowded k z i p q o =
@@ -128,10 +128,10 @@ module _ (I : Instance) (x : Assignment) (w : Partial I x) (a : Limits) where
   pub end-rests : Step I a (endedBy I x a) rest
   end-rests = rw (trial-rests I x w a) at (step I a (endedBy I x a))
 
-  pub end-kept : Apart I a → Kept I a (endedBy I x a)
+  pub end-kept : Apart I a → TrialKept I a (endedBy I x a)
   unfolding endedBy
   end-kept c =
-      run-keeps I a (Kept I a)
+      run-keeps I a (TrialKept I a)
       (λ s h. record { shape = shape-step I a s (h .shape); heavy = heavy-step I a c s (h .shape) (h .heavy) })
       (liftBound I + pushBound I) (start I x)
       (record { shape = shape-start I x w; heavy = heavy-start I x a })

@@ -12,7 +12,7 @@ use Rattle.rules.specs.Load.{longest, makespan, equilibrium, review}
 use Rattle.rules.specs.Trial.{atLevel, ended, liftBound, pushBound}
 use Rattle.rules.specs.Group.{trial}
 use Rattle.rules.specs.LowerBound.{witnessed}
-use Rattle.rules.specs.Run.{Call, editing, reviewing, trying, planning, next, bookAfter, editBook, planBook}
+use Rattle.rules.specs.Run.{Call, editing, reviewing, trying, planning, next, editBook, planBook}
 use Rattle.theory.proofs.Valid.{Valid, Permitted}
 use Rattle.theory.proofs.Sound.{read-sound, edit-sound, sound-valid, sound-permitted, placed-sound, placed-places, placed-instance, jobs-count}
 use Rattle.theory.proofs.Review.{Improves, review-settled, settled-review, settled-none, none-settled}
@@ -135,8 +135,3 @@ throughout k (c ∷ cs) h = call (sound-claims k h) (throughout (next k c) cs (n
 -- from every file without a fault, and for every list of calls
 pub run-claims : (s : List ℕ) (k : Book) → read s ≡ accepted k → (cs : List Call) → Throughout k cs
 run-claims s k e cs = throughout k cs (read-sound s k e)
-
-pub run-sound : (k : Book) (cs : List Call) → sound k ≡ true → sound (bookAfter k cs) ≡ true
-unfolding bookAfter
-run-sound k [] h = h
-run-sound k (c ∷ cs) h = run-sound (next k c) cs (next-sound k c h)

@@ -14,11 +14,11 @@ use Rattle.rules.specs.Sheet.{Batch, Book, size, batch, noBatchHere, isBatch, h
 use Rattle.rules.specs.Edit.{Edit, add, withdraw, requalify, move, Edited, edited, unless, kept, without, withBatch, edit}
 use Rattle.rules.specs.Instance.{Assignment, Job, noJob, n, jobOf, instance, places, minutesOf, eligible}
 use Rattle.rules.specs.Read.{accepted, placeOr, read}
-use Rattle.rules.specs.Render.{fitsBatch, fits, placed, bookSaid}
+use Rattle.rules.specs.Render.{batchWithinLimits, withinLimits, placed, bookSaid}
 use Rattle.rules.specs.Run.{placeAll, withPlaces}
 use Rattle.theory.proofs.Logic.{byTest, conflict, and-left, and-right, and-mk, or-cases}
 use Rattle.theory.proofs.Member.{mem-head, every-append, every-one, every-at, every-set, every-mem}
-use Rattle.theory.proofs.Format.{fits-batch-is, fits-is}
+use Rattle.theory.proofs.Format.{batch-within-is, within-is}
 use Rattle.theory.proofs.Parse.{read-is-render}
 use Rattle.theory.proofs.Valid.{Valid, Permitted, eligible-job}
 
@@ -39,12 +39,12 @@ pub is-good : (m : ℕ) (b : Batch) → Good m b → goodBatch m b ≡ true
 unfolding goodBatch
 is-good m b g = and-mk _ _ (g .minutes) (and-mk _ _ (g .list) (g .place))
 
-pub record Sound (k : Book) : Type 0 where
+pub record SoundBook (k : Book) : Type 0 where
   pub instruments : goodInstruments (k .m) ≡ true
   pub room : size k ≤ maxBatches
   pub batches : every (goodBatch (k .m)) (k .batches) ≡ true
 
-pub sound-is : (k : Book) → sound k ≡ true → Sound k
+pub sound-is : (k : Book) → sound k ≡ true → SoundBook k
 unfolding sound
 sound-is k e =
     let r = and-right (goodInstruments (k .m)) _ e in
@@ -54,7 +54,7 @@ sound-is k e =
       batches = and-right (leb (size k) maxBatches) _ r;
     }
 
-pub is-sound : (k : Book) → Sound k → sound k ≡ true
+pub is-sound : (k : Book) → SoundBook k → sound k ≡ true
 unfolding sound
 is-sound k s = and-mk _ _ (s .instruments) (and-mk _ _ (le-leb _ _ (s .room)) (s .batches))
 
@@ -93,33 +93,33 @@ place-listed zero l h e = first-listed l h
 place-listed (suc p) l h e =
     or-cases (eqb (suc p) 0) (mem (suc p) l) e (λ t. absurd (omega (arith, eqb-true (suc p) 0 t))) (λ t. t)
 
-fits-good : (m : ℕ) (b : Batch) → fitsBatch m b ≡ true → goodBatch m (placed b) ≡ true
-fits-good m b e =
-    let f = fits-batch-is m b e in
+within-good : (m : ℕ) (b : Batch) → batchWithinLimits m b ≡ true → goodBatch m (placed b) ≡ true
+within-good m b e =
+    let f = batch-within-is m b e in
     is-good m (placed b) (record {
       minutes = f .minutes;
       list = f .list;
       place = place-listed (b .place) (b .list) (good-some m (b .list) (f .list)) (f .place);
     })
 
-fits-every : (m : ℕ) (bs : List Batch) → every (fitsBatch m) bs ≡ true → every (goodBatch m) (map placed bs) ≡ true
+within-every : (m : ℕ) (bs : List Batch) → every (batchWithinLimits m) bs ≡ true → every (goodBatch m) (map placed bs) ≡ true
 unfolding every
-fits-every m [] e = e
-fits-every m (b ∷ bs) e = and-mk _ _ (fits-good m b (and-left _ _ e)) (fits-every m bs (and-right (fitsBatch m b) _ e))
+within-every m [] e = e
+within-every m (b ∷ bs) e = and-mk _ _ (within-good m b (and-left _ _ e)) (within-every m bs (and-right (batchWithinLimits m b) _ e))
 
-pub fits-sound : (d : Book) → fits d ≡ true → sound (bookSaid d) ≡ true
-fits-sound d e =
-    let f = fits-is d e in
+pub within-sound : (d : Book) → withinLimits d ≡ true → sound (bookSaid d) ≡ true
+within-sound d e =
+    let f = within-is d e in
     is-sound (bookSaid d) (record {
       instruments = f .instruments;
       room = omega (arith, length-map (d .batches) placed, leb-true (size d) maxBatches (f .room));
-      batches = fits-every (d .m) (d .batches) (f .batches);
+      batches = within-every (d .m) (d .batches) (f .batches);
     })
 
 pub read-sound : (s : List ℕ) (k : Book) → read s ≡ accepted k → sound k ≡ true
 read-sound s k e =
     let r = read-is-render s k e in
-    subst (λ (j : Book). sound j ≡ true) (r .2) (fits-sound (r .0) (r .1))
+    subst (λ (j : Book). sound j ≡ true) (r .2) (within-sound (r .0) (r .1))
 
 -- ---- edits
 
@@ -139,16 +139,16 @@ without-every p (b ∷ bs) zero e = and-right (p b) _ e
 without-every p (b ∷ bs) (suc k) e = and-mk _ _ (and-left _ _ e) (without-every p bs k (and-right (p b) _ e))
 
 -- a batch of a sound book, by its index and by its number
-good-at : (k : Book) (b : ℕ) → Sound k → b < size k → Good (k .m) (getD (k .batches) b noBatchHere)
+good-at : (k : Book) (b : ℕ) → SoundBook k → b < size k → Good (k .m) (getD (k .batches) b noBatchHere)
 good-at k b s h = good-is (k .m) _ (every-at (goodBatch (k .m)) (k .batches) noBatchHere b (s .batches) h)
 
-pub good-batch : (k : Book) (b : ℕ) → Sound k → isBatch k b ≡ true → Good (k .m) (batch k b)
+pub good-batch : (k : Book) (b : ℕ) → SoundBook k → isBatch k b ≡ true → Good (k .m) (batch k b)
 unfolding isBatch
 good-batch k zero s e = conflict (and-left (leb 1 0) _ e) refl
 good-batch k (suc b) s e = good-at k b s (leb-true _ _ (and-right (leb 1 (suc b)) _ e))
 
 -- one batch entered anew
-with-sound : (k : Book) (b : ℕ) (c : Batch) → Sound k → Good (k .m) c → Sound (withBatch k b c)
+with-sound : (k : Book) (b : ℕ) (c : Batch) → SoundBook k → Good (k .m) c → SoundBook (withBatch k b c)
 with-sound k b c s g =
     record {
       instruments = s .instruments;
@@ -157,7 +157,7 @@ with-sound k b c s g =
     }
 
 -- the book that an edit gives
-gave : {k j : Book} → Sound k → edited k ≡ edited j → sound j ≡ true
+gave : {k j : Book} → SoundBook k → edited k ≡ edited j → sound j ≡ true
 gave {k} {j} s e = let q : k ≡ j = cc in rw q at (is-sound k s)
 
 pub edit-sound : (k : Book) (e : Edit) (j : Book) → sound k ≡ true → edit k e ≡ edited j → sound j ≡ true
@@ -214,7 +214,7 @@ jobs-count k = length-map (k .batches) jobOf
 pub sound-valid : (k : Book) → sound k ≡ true → Valid (instance k)
 sound-valid k v = record { minutes = lasting; ranged = named }
   where
-    s : Sound k
+    s : SoundBook k
     s = sound-is k v
 
     lasting : (b : ℕ) → 0 < b → b ≤ n (instance k) → 0 < minutesOf (instance k) b

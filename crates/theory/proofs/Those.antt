@@ -9,7 +9,7 @@ use native.Mathlib.Omega.{arith}
 use native.Mathlib.Decide.{ℕ-discrete}
 use lib.ListN.{length, length-append}
 use borrow.Author.Tests.{ne-eqb}
-use Rattle.rules.specs.Fold.{_or_, pick, mem, sumTo, thoseTo}
+use Rattle.rules.specs.Fold.{pick, mem, sumTo, thoseTo}
 use Rattle.theory.proofs.Logic.{byTest, conflict, or-cases, or-false, or-skip}
 use Rattle.theory.proofs.Member.{mem-append, mem-one, mem-head, mem-none}
 

@@ -9,7 +9,7 @@ use native.Mathlib.Omega.{arith}
 use native.Mathlib.Decide.{decLe}
 use lib.ListN.{length}
 use borrow.Author.Tests.{ltb-false}
-use Rattle.rules.specs.Fold.{_or_, at, mem, anyTo, thoseTo}
+use Rattle.rules.specs.Fold.{at, mem, anyTo, thoseTo}
 use Rattle.rules.specs.Instance.{Instance, Assignment, n}
 use Rattle.rules.specs.Load.{load, longest, makespan}
 use Rattle.rules.specs.Trial.{Limits, atLevel, State, rest, start, ended, endedBy, liftBound, pushBound, overloaded, unplaced, someUnderloaded, can, machineDeed}
@@ -25,7 +25,7 @@ use Rattle.theory.proofs.Steps.{run-keeps}
 use Rattle.theory.proofs.Underloaded.{level-apart, Hand, whole, one, hand-step, hand-start, runnable, overloaded-gt}
 use Rattle.theory.proofs.Closure.{IsGroup, group-range, group-length, count-some, closure-holds}
 use Rattle.theory.proofs.Confined.{group-jobs, closed-confines, heavy-group, confined-makespan}
-use Rattle.theory.proofs.Rested.{Crowded, dark-crowded, stuck-crowded, stuck-placed, over-some, Kept, end-kept, end-rests}
+use Rattle.theory.proofs.Rested.{Crowded, dark-crowded, stuck-crowded, stuck-placed, over-some, TrialKept, end-kept, end-rests}
 
 -- ---- what a group shows at level a
 
@@ -136,7 +136,7 @@ module _ (I : Instance) (x : Assignment) (v : Valid I) (w : Permitted I x) (a : 
   fail-all s t (here i p q o) =
       fail-by s _ i (dark-crowded I (atLevel I a) s t (omega arith)) (those-mem (I .m) (λ i. true) i p q) p q o (everything t)
 
-  fail-stuck : (s : State) → Kept I (atLevel I a) s → someUnderloaded I (atLevel I a) s ≡ true
+  fail-stuck : (s : State) → TrialKept I (atLevel I a) s → someUnderloaded I (atLevel I a) s ≡ true
       → None (I .m) (λ i. can (machineDeed I (atLevel I a) s i)) → Some (I .m) (λ i. overloaded I (atLevel I a) s i)
       → {i : ℕ} → First (I .m) (λ i. overloaded I (atLevel I a) s i) i → Fails s (closure I (s .assignment) i)
   fail-stuck s k t z (here i p q o) (First.nowhere y) = conflict o (y i p q)
@@ -144,7 +144,7 @@ module _ (I : Instance) (x : Assignment) (v : Valid I) (w : Permitted I x) (a : 
       fail-by s _ (suc i) (stuck-crowded I (atLevel I a) s k z (suc i) (omega arith) l o)
       (closure-holds I (s .assignment) (suc i) (omega arith) l) (omega arith) l o (closureOf t i l o y)
 
-  fail-of : (s : State) → Kept I (atLevel I a) s → Step I (atLevel I a) s rest
+  fail-of : (s : State) → TrialKept I (atLevel I a) s → Step I (atLevel I a) s rest
       → Some (I .m) (λ i. overloaded I (atLevel I a) s i) → Fails s (group I (atLevel I a) s)
   unfolding group
   fail-of s k (Step.noUnderloaded t) e = rw t (fail-all s t e)

@@ -10,7 +10,7 @@ use native.Mathlib.Decide.{ℕ-discrete}
 use lib.ListN.{length}
 use lib.Dec.{leb, eqb}
 use borrow.Author.Tests.{eqb-true, eq-eqb, ne-eqb, ltb-true, leb-true, leb-false, le-leb}
-use Rattle.rules.specs.Fold.{_and_, pick, at, put, anyTo}
+use Rattle.rules.specs.Fold.{pick, at, put, anyTo}
 use Rattle.rules.specs.Instance.{Instance, Assignment, n, eligible, minutesOf}
 use Rattle.rules.specs.Load.{load}
 use Rattle.rules.specs.Trial.{Limits, atLevel, State, can, Act, act, after, pushed, overloaded, underloaded, someUnderloaded, jobDeed, machineDeed, start}

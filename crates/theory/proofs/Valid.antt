@@ -7,7 +7,7 @@ use native.Mathlib.Omega.{arith}
 use lib.ListN.{length, getD}
 use lib.Dec.{eqb}
 use borrow.Author.Tests.{eqb-true, eq-eqb}
-use Rattle.rules.specs.Fold.{_and_, at, mem}
+use Rattle.rules.specs.Fold.{at, mem}
 use Rattle.rules.specs.Instance.{Instance, Assignment, Job, noJob, n, minutesOf, eligible}
 use Rattle.rules.specs.Load.{permitted}
 use Rattle.theory.proofs.Logic.{conflict, and-left, and-right, and-mk}

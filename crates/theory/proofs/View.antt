@@ -7,7 +7,7 @@ use native.Mathlib.Omega.{arith}
 use native.Mathlib.Decide.{ℕ-discrete, decLe}
 use lib.Dec.{ltb}
 use borrow.Author.Tests.{ltb-true, ltb-false}
-use Rattle.rules.specs.Fold.{_or_, _and_, pick, orElse, firstTo, lesser, leastTo, greater, greatestTo, anyTo, allTo, most, maxTo, sumTo}
+use Rattle.rules.specs.Fold.{_or_, pick, orElse, firstTo, lesser, leastTo, greater, greatestTo, anyTo, allTo, most, maxTo, sumTo}
 use Rattle.theory.proofs.Logic.{byTest, conflict, and-left, and-right, and-mk, or-left, or-right}
 
 -- none of 1 to k passes

@@ -1,4 +1,4 @@
--- The first i numbers are written, and `to` is where they end.
+-- The invariant: the first i numbers are written, and `to` is where they end.
 use Prim.Native.Nat.{ℕ, _+_, _-_, _*_, _≤_}
 use mathlib.Core.Path.{_≡_, refl, ap, _∙_}
 use native.Mathlib.Omega.{arith}

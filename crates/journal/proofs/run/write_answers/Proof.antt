@@ -55,7 +55,7 @@ put-answer-requires c κs =
     let l = c .before .before .before .before .before .before .loop in
     let a = made m in
     let r = turn-room (l .inv .0) _ (turn m) _ a in
-    rw (a .long) (omega (arith, r, l .inv .1 .size, l .inv .2, c .before .before .before .before .before .before .before .before .before .pre .2), a .fits)
+    rw (a .long) (omega (arith, r, l .inv .1 .size, l .inv .2, c .before .before .before .before .before .before .before .before .before .pre .2), a .inColumns)
 
 line-length-requires : tie.Need-line-length-requires Inv-loop μ-loop
 line-length-requires c κs = made (c .before .before .before .before .before .before .before) .few

@@ -1,7 +1,7 @@
 -- The plan's numbers fit their columns, and the text from the arrays is the listing of the sheet's book.
 use native.Mathlib.Omega.{arith}
 use Rattle.sheet.specs.Represent.{bookOf}
-use Rattle.listing.proofs.Planned.{Answered, answered, answered-length, answered-text}
+use Rattle.listing.proofs.Planned.{PlanAnswered, plan-answered, answered-length, answered-text}
 use Rattle.listing.proofs.Hosting.{into-short, into-long}
 use borrow.Author.Needs.{needs}
 use Rattle.listing.proofs.host.list_into.Statement.{statement}
@@ -9,8 +9,8 @@ use Rattle.listing.proofs.host.list_into.Tie as tie
 
 -- what is planned
 planned : (c : tie.After-batches)
-    → Answered (c .before .before .before .args .sheet) (c .before .before .before .pre) (c .before .plan .result) (c .batches .result)
-planned c = answered _ (c .before .before .before .pre) _ _ (c .before .plan .ensures .is) (c .batches .ensures)
+    → PlanAnswered (c .before .before .before .args .sheet) (c .before .before .before .pre) (c .before .plan .result) (c .batches .result)
+planned c = plan-answered _ (c .before .before .before .pre) _ _ (c .before .plan .ensures .is) (c .batches .ensures)
 
 plan-requires : tie.Need-plan-requires
 plan-requires c κs = search needs
@@ -19,7 +19,7 @@ batches-requires : tie.Need-batches-requires
 batches-requires c κs = search needs
 
 listing-length-requires : tie.Need-listing-length-requires
-listing-length-requires c κs = let a = planned c in (omega (arith, a .size, a .fits .few), a .room)
+listing-length-requires c κs = let a = planned c in (omega (arith, a .size, a .inColumns .few), a .room)
 
 code-requires : tie.Need-code-requires
 code-requires c κs = search needs
@@ -46,7 +46,7 @@ slice-aggregate-put-listing-2 c = search needs
 put-listing-requires : tie.Need-put-listing-requires
 put-listing-requires c κs =
     let a = planned (c .before .before .before .before .before .before .before .before .before) in
-    let f = a .fits in (
+    let f = a .inColumns in (
       omega arith,
       omega (arith, a .makespan, f .makespan),
       omega (arith, a .bound, f .bound),

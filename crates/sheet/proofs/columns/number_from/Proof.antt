@@ -9,12 +9,12 @@ use borrow.Author.Tests.{not-true, not-false}
 use lib.ListN.{length, getD, drop}
 use Rattle.rules.specs.Field.{blanks}
 use Rattle.sheet.specs.Columns.{follows}
-use Rattle.sheet.proofs.Fields.{follows-ones, ten-more, ten-fits, ten-some, after, column-more, column-fault, column-last, column-low, column-high, numbered-value}
+use Rattle.sheet.proofs.Fields.{follows-ones, ten-more, ten-fits, ten-some, fieldAfter, column-more, column-fault, column-last, column-low, column-high, numbered-value}
 use Rattle.sheet.proofs.columns.number_from.Statement.{statement}
 use Rattle.sheet.proofs.columns.number_from.Tie as tie
 
 abbrev Inv-loop : tie.InvT-loop
-Inv-loop s from i₀ v₀ i v = (i ≤ 5) × (v < 10 ^ i) × (after v (drop i s) ≡ blanks (drop from s))
+Inv-loop s from i₀ v₀ i v = (i ≤ 5) × (v < 10 ^ i) × (fieldAfter v (drop i s) ≡ blanks (drop from s))
 
 abbrev μ-loop : tie.MeasureT-loop
 μ-loop s from i₀ v₀ i v = 5 - i
@@ -27,7 +27,7 @@ small c = ten-fits (c .loop .i) (c .loop .v) (c .loop .inv .0) (c .loop .inv .1)
 
 -- the last column is left
 left : (c : tie.After-loop Inv-loop μ-loop) →
-    after (c .before .loop .v) (drop 5 (text (c .before .before .before))) ≡ blanks (drop (c .before .before .before .args .from) (text (c .before .before .before)))
+    fieldAfter (c .before .loop .v) (drop 5 (text (c .before .before .before))) ≡ blanks (drop (c .before .before .before .args .from) (text (c .before .before .before)))
 left c =
     let h : c .before .loop .i ≡ 5 = omega (arith, c .before .loop .inv .0, c .loop-test .left) in
     rw (← h) (c .before .loop .inv .2)
@@ -38,8 +38,8 @@ loop-holds c = (c .before .pre .1, ten-some _, refl)
 shared-slice-read-b : tie.Need-shared-slice-read-b Inv-loop μ-loop
 shared-slice-read-b c = search needs
 
-fits-requires : tie.Need-fits-requires Inv-loop μ-loop
-fits-requires c κs = search needs
+may-follow-requires : tie.Need-may-follow-requires Inv-loop μ-loop
+may-follow-requires c κs = search needs
 
 returns : tie.Need-returns Inv-loop μ-loop
 returns c =
@@ -47,7 +47,7 @@ returns c =
     let i : ℕ = c .before .before .before .before .loop .i in
     let v : ℕ = c .before .before .before .before .loop .v in
     let h : i + 1 < length s = omega (arith, c .before .before .before .loop-test .taken, c .before .before .before .before .before .before .pre .0) in
-    sym (column-fault s i v h (sym (c .before .fits2 .ensures) ∙ not-true _ (c .if1 .taken))) ∙ c .before .before .before .before .loop .inv .2
+    sym (column-fault s i v h (sym (c .before .may-follow .ensures) ∙ not-true _ (c .if1 .taken))) ∙ c .before .before .before .before .loop .inv .2
 
 mul-v : tie.Need-mul-v Inv-loop μ-loop
 mul-v c = omega (arith, small (c .before .before .before .before))
@@ -70,7 +70,7 @@ loop-again c =
     let i : ℕ = c .before .before .before .before .before .loop .i in
     let v : ℕ = c .before .before .before .before .before .loop .v in
     let t : i < 5 = c .before .before .before .before .loop-test .taken in
-    let f : follows (getD s i 0) v ≡ true = sym (c .before .before .fits2 .ensures) ∙ not-false _ (c .before .if1 .left) in
+    let f : follows (getD s i 0) v ≡ true = sym (c .before .before .may-follow .ensures) ∙ not-false _ (c .before .if1 .left) in
     rw (c .wide .ensures .0) (
       omega arith,
       ten-more i v (c .before .before .before .before .before .loop .inv .1) (getD s i 0 % 16) (follows-ones (getD s i 0) v f),
@@ -113,7 +113,7 @@ number-from-spec =
     μ-loop
     loop-holds
     shared-slice-read-b
-    fits-requires
+    may-follow-requires
     returns
     mul-v
     wide-requires

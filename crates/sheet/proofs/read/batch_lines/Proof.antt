@@ -10,11 +10,6 @@ use Rattle.sheet.proofs.PartsRead.{LineGiven, line-given, some-refusal}
 use Rattle.sheet.proofs.BatchesRead.{held, Sofar, none-yet, lists-long, one-more, then-refused, left-over, all-read}
 use Rattle.sheet.proofs.read.batch_lines.Statement.{statement}
 use Rattle.sheet.proofs.read.batch_lines.Tie as tie
-use Rattle.sheet.proofs.read.batch_lines.Reads as reads
-use Rattle.sheet.proofs.read.batch_lines.Lts as lts
-use Rattle.sheet.proofs.enter_part.Reads as enter-part-reads
-use Rattle.sheet.proofs.read.batch_line.Reads as batch-line-reads
-use Rattle.sheet.proofs.read.refused_at.Reads as refused-at-reads
 
 abbrev Inv-loop : tie.InvT-loop
 Inv-loop s at m n minutes₀ places₀ counts₀ lists₀ next₀ i₀ minutes places counts lists next i = Sofar s at m n (held m i minutes places counts lists) next i

@@ -7,8 +7,8 @@ use borrow.Author.Needs.{needs}
 use lib.Dec.{eqb}
 use Rattle.rules.specs.Fold.{pick}
 use Rattle.sheet.proofs.Fields.{follows-low, follows-high, follows-test}
-use Rattle.sheet.proofs.columns.fits.Statement.{statement}
-use Rattle.sheet.proofs.columns.fits.Tie as tie
+use Rattle.sheet.proofs.columns.may_follow.Statement.{statement}
+use Rattle.sheet.proofs.columns.may_follow.Tie as tie
 
 small : (t : Bool) (r : ℕ) → r ≡ pick t 223 224 → r < 225
 small true r e = omega arith
@@ -34,5 +34,5 @@ returns-3 c =
     rw (c .before .wide .ensures .0, c .shift .ensures)
     (follows-test (c .before .before .before .before .args .b) (c .before .before .before .before .args .v) (c .before .before .before .if1 .left) (c .before .before .if2 .left))
 
-pub fits-spec : {M : Type 1} → statement M
-fits-spec = tie.close (tie.spec returns returns-2 wide-requires shift-requires add-x returns-3)
+pub may-follow-spec : {M : Type 1} → statement M
+may-follow-spec = tie.close (tie.spec returns returns-2 wide-requires shift-requires add-x returns-3)

@@ -50,9 +50,9 @@ lines-length m (suc c) j bs r k g e =
     (λ b i a l h.
     omega (arith, lines-length m c (suc j) (bs ++ (b ∷ [])) (drop i r) k g h, length-drop i r))
 
-pub longest : (s : List ℕ) (k : Book) → read s ≡ accepted k → length s ≤ 32613
+pub most-bytes : (s : List ℕ) (k : Book) → read s ≡ accepted k → length s ≤ 32613
 unfolding read
-longest s k e =
+most-bytes s k e =
     line-took 1 _ (head-near 13 s (omega arith)) e
     (λ h i a l d.
     omega
