@@ -7,7 +7,7 @@ use lib.ListN.{length, take, drop, length-append, replicate}
 use lib.Seq.{take-at, paste}
 use Rattle.rules.specs.Sheet.{Book, sound}
 use Rattle.rules.specs.Run.{Call, answer, next, answers, answerNumbers}
-use Rattle.rules.specs.Journal.{Journal, calls, faulty, first, journal, callLine, answerLine, answerLines}
+use Rattle.rules.specs.Journal.{Journal, calls, faulty, withCall, journal, callLine, answerLine, answerLines}
 use Rattle.theory.proofs.Logic.{byTest}
 use Rattle.theory.proofs.Runs.{next-sound}
 use Rattle.sheet.specs.declared.Sheet.{Sheet}
@@ -21,7 +21,7 @@ use Rattle.journal.specs.Entry.{entryAs, entryOf, linesFrom}
 use Rattle.journal.specs.Answering.{callSaid, madeOf, isPlan, lineOf, lineLength, Fitting}
 use Rattle.journal.specs.Running.{Spells, textOf}
 use Rattle.journal.proofs.Calls.{Given, count-kept}
-use Rattle.journal.proofs.Linewise.{journal-is, line-given, lines-first, lines-fault, lines-end}
+use Rattle.journal.proofs.Linewise.{journal-is, entry-given, lines-first, lines-fault, lines-end}
 use Rattle.journal.proofs.Said.{made-said}
 use Rattle.journal.proofs.Fitting.{answer-fits, line-is, line-of-length}
 
@@ -110,7 +110,7 @@ never l i cs p q = let z : _≡_ {A = ℕ} 0 1 = cc in omega arith
 
 module _ {k : Book} {j : List ℕ} {s : Sheet} {at : ℕ} (g : Going k j s at) where
   turn : (e : Entry) (f : Given j at 7 (callLine (drop at j)) e) (l : Journal) → linesFrom (suc (g .line)) (drop (e .next) j) ≡ l
-      → first (f .call) l ≡ calls (g .left) → Turn j at (g .line) (g .left) e
+      → withCall (f .call) l ≡ calls (g .left) → Turn j at (g .line) (g .left) e
   turn e f (calls rest) p q = record { given = f; rest = rest; lines = p; parts = cc }
   turn e f (faulty i) p q = absurd (never (faulty i) i (g .left) refl q)
 
@@ -118,7 +118,7 @@ module _ {k : Book} {j : List ℕ} {s : Sheet} {at : ℕ} (g : Going k j s at) w
   next-line e q h =
       byTest (e .fault)
       (λ t. absurd (never _ (g .line) (g .left) (lines-fault j at e q (g .line) h t) (g .lines)))
-      (λ t. let f = line-given j at e q (g .room) t in
+      (λ t. let f = entry-given j at e q (g .room) t in
       turn e f (linesFrom (suc (g .line)) (drop (e .next) j)) refl (sym (lines-first j at e q (g .line) f) ∙ g .lines))
 
   pub turn-few : (e : Entry) → Turn j at (g .line) (g .left) e → e .count ≤ length (e .list)

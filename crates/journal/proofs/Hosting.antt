@@ -10,7 +10,7 @@ use Rattle.rules.specs.Fold.{pick}
 use Rattle.rules.specs.Sheet.{Book}
 use Rattle.rules.specs.Read.{Part, gives, refuses, accepted, read}
 use Rattle.rules.specs.Run.{Call, answers}
-use Rattle.rules.specs.Journal.{Journal, calls, faulty, first, onCall, callLine, linesBy, journal, answerLines, ranOn, runHost}
+use Rattle.rules.specs.Journal.{Journal, calls, faulty, withCall, onCall, callLine, linesBy, journal, answerLines, ranOn, runHost}
 use Rattle.rules.specs.Listing.{intoBuffer}
 use Rattle.theory.proofs.Runs.{Throughout, run-claims}
 use Rattle.sheet.specs.declared.Reading.{Reading}
@@ -26,7 +26,7 @@ pub data Numbered (m : ℕ) : Journal → Type 0 where
   fault : (i : ℕ) → 0 < i → i ≤ m → Numbered m (faulty i)
 
 module _ {m : ℕ} where
-  first-numbered : (c : Call) {l : Journal} → Numbered m l → Numbered m (first c l)
+  first-numbered : (c : Call) {l : Journal} → Numbered m l → Numbered m (withCall c l)
   first-numbered c (formed cs) = formed _
   first-numbered c (fault i h n) = fault i h n
 

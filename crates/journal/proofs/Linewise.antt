@@ -11,7 +11,7 @@ use Rattle.rules.specs.Fold.{pick}
 use Rattle.rules.specs.Refusal.{Refusal}
 use Rattle.rules.specs.Read.{Part, gives, refuses}
 use Rattle.rules.specs.Run.{Call}
-use Rattle.rules.specs.Journal.{callLine, Journal, calls, faulty, first, onCall, linesBy, journal}
+use Rattle.rules.specs.Journal.{callLine, Journal, calls, faulty, withCall, onCall, linesBy, journal}
 use Rattle.theory.proofs.Logic.{conflict}
 use Rattle.journal.specs.declared.entry.Entry.{Entry}
 use Rattle.journal.specs.Entry.{entryAs, linesFrom, faultOf}
@@ -22,17 +22,17 @@ use Rattle.journal.proofs.Calls.{Leaves, refuse, give, line-leaves, Giv
 same-rest : (j : ℕ) (r : List ℕ) (f g : List ℕ → Journal) (p : Part Call) → Leaves 7 r p
     → ((k : ℕ) → 7 ≤ k → f (drop k r) ≡ g (drop k r)) → onCall j p f ≡ onCall j p g
 same-rest j r f g p (refuse e) h = refl
-same-rest j r f g p (give c k i v) h = ap (first c) (h k i)
+same-rest j r f g p (give c k i v) h = ap (withCall c) (h k i)
 
-pub enough : (f g j : ℕ) (r : List ℕ) → length r ≤ f → length r ≤ g → linesBy f j r ≡ linesBy g j r
+pub lines-enough : (f g j : ℕ) (r : List ℕ) → length r ≤ f → length r ≤ g → linesBy f j r ≡ linesBy g j r
 unfolding linesBy
-enough zero zero j r h l = refl
-enough zero (suc g) j r h l = rw (eq-eqb (length r) 0 (omega arith))
-enough (suc f) zero j r h l = rw (eq-eqb (length r) 0 (omega arith))
-enough (suc f) (suc g) j r h l =
+lines-enough zero zero j r h l = refl
+lines-enough zero (suc g) j r h l = rw (eq-eqb (length r) 0 (omega arith))
+lines-enough (suc f) zero j r h l = rw (eq-eqb (length r) 0 (omega arith))
+lines-enough (suc f) (suc g) j r h l =
     ap (λ (y : Journal). pick (eqb (length r) 0) (calls []) y)
     (same-rest j r (λ u. linesBy f (suc j) u) (λ u. linesBy g (suc j) u) (callLine r) (line-leaves r) (λ k i.
-    enough f g (suc j) (drop k r) (omega (arith, length-drop k r)) (omega (arith, length-drop k r))))
+    lines-enough f g (suc j) (drop k r) (omega (arith, length-drop k r)) (omega (arith, length-drop k r))))
 
 -- ---- the lines of some bytes, the first of which is line j
 
@@ -48,12 +48,12 @@ turn j r h =
     ap (λ (f : ℕ). linesBy f j r) e ∙ rw (ne-eqb (length r) 0 (λ z. omega arith))
 
 pub lines-more : (j : ℕ) (r u : List ℕ) (c : Call) → callLine r ≡ gives c u → length u < length r
-    → linesFrom j r ≡ first c (linesFrom (suc j) u)
+    → linesFrom j r ≡ withCall c (linesFrom (suc j) u)
 unfolding linesFrom
 lines-more j r u c e h =
     turn j r (omega arith)
     ∙ ap (λ (p : Part Call). onCall j p (λ v. linesBy (length r - 1) (suc j) v)) e
-    ∙ ap (first c) (enough (length r - 1) (length u) (suc j) u (omega arith) (omega arith))
+    ∙ ap (withCall c) (lines-enough (length r - 1) (length u) (suc j) u (omega arith) (omega arith))
 
 pub lines-faulty : (j : ℕ) (r : List ℕ) (g : Refusal) → callLine r ≡ refuses g → 0 < length r → linesFrom j r ≡ faulty j
 lines-faulty j r g e h = turn j r h ∙ ap (λ (p : Part Call). onCall j p (λ v. linesBy (length r - 1) (suc j) v)) e
@@ -66,12 +66,12 @@ journal-is s = refl
 
 module _ (s : List ℕ) (at : ℕ) (e : Entry) (q : e ≡ entryAs (length s) (callLine (drop at s))) where
   -- the line at at, with its call and its end
-  pub line-given : at ≤ length s → e .fault ≡ false → Given s at 7 (callLine (drop at s)) e
-  line-given h t = given s at 7 (callLine (drop at s)) e h (line-leaves (drop at s)) q t
+  pub entry-given : at ≤ length s → e .fault ≡ false → Given s at 7 (callLine (drop at s)) e
+  entry-given h t = given s at 7 (callLine (drop at s)) e h (line-leaves (drop at s)) q t
 
   -- the lines from there on are it and the lines from its end on
   pub lines-first : (j : ℕ) (g : Given s at 7 (callLine (drop at s)) e)
-      → linesFrom j (drop at s) ≡ first (g .call) (linesFrom (suc j) (drop (e .next) s))
+      → linesFrom j (drop at s) ≡ withCall (g .call) (linesFrom (suc j) (drop (e .next) s))
   lines-first j g =
       lines-more j (drop at s) (drop (e .next) s) (g .call) (g .part)
       (omega (arith, g .past, g .room, length-drop at s, length-drop (e .next) s))
@@ -90,6 +90,6 @@ lines-end s at j h = lines-none j (drop at s) (omega (arith, length-drop at s))
 
 -- ---- the first fault is that of the lines that follow
 
-pub fault-first : (c : Call) (l : Journal) → faultOf (first c l) ≡ faultOf l
+pub fault-first : (c : Call) (l : Journal) → faultOf (withCall c l) ≡ faultOf l
 fault-first c (calls cs) = refl
 fault-first c (faulty j) = refl

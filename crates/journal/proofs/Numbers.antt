@@ -66,7 +66,7 @@ after-none (gives m r) = refl
 after-none (refuses e) = refl
 
 module _ (s : List ℕ) (at c : ℕ) where
-  pub record Sofar (list : List ℕ) (k next : ℕ) : Type 0 where
+  pub record NumbersSofar (list : List ℕ) (k next : ℕ) : Type 0 where
     pub numbers : List ℕ
     pub count : length numbers ≡ k
     pub same : list ≡ row numbers
@@ -74,7 +74,7 @@ module _ (s : List ℕ) (at c : ℕ) where
     pub few : k ≤ c
     pub rest : after numbers (numbersAt (c - k) (drop next s)) ≡ numbersAt c (drop at s)
 
-  pub none-yet : (list : List ℕ) → list ≡ row [] → at ≤ length s → Sofar list 0 at
+  pub none-yet : (list : List ℕ) → list ≡ row [] → at ≤ length s → NumbersSofar list 0 at
   none-yet list e h =
       let d : c - 0 ≡ c = omega arith in
       record {
@@ -86,7 +86,7 @@ module _ (s : List ℕ) (at c : ℕ) where
         rest = after-none (numbersAt (c - 0) (drop at s)) ∙ ap (λ (i : ℕ). numbersAt i (drop at s)) d;
       }
 
-  module _ (list : List ℕ) (k next : ℕ) (f : Sofar list k next) where
+  module _ (list : List ℕ) (k next : ℕ) (f : NumbersSofar list k next) where
     turn : k < c → after (f .numbers) (andThen (numberAt (drop next s)) (λ x r.
         andThen (numbersAt (c - (k + 1)) r) (λ l u. gives (x ∷ l) u))) ≡ numbersAt c (drop at s)
     unfolding numbersAt
@@ -100,7 +100,7 @@ module _ (s : List ℕ) (at c : ℕ) where
 
     -- one number more
     pub one-more : (x : ℕ) (more : List ℕ) → k < c → numberAt (drop next s) ≡ gives x (drop (next + 6) s) → next + 6 ≤ length s
-        → more ≡ row (f .numbers ++ (x ∷ [])) → Sofar more (k + 1) (next + 6)
+        → more ≡ row (f .numbers ++ (x ∷ [])) → NumbersSofar more (k + 1) (next + 6)
     one-more x more h e l q =
         let g : after (f .numbers) (andThen (numbersAt (c - (k + 1)) (drop (next + 6) s)) (λ m u. gives (x ∷ m) u))
         ≡ numbersAt c (drop at s) = rw e at (turn h) in

@@ -65,7 +65,7 @@ abbrev pub plannedNumbers : Planned → List ℕ
 plannedNumbers r =
     0 ∷ r .makespan ∷ r .bound ∷ r .level ∷ r .lifts ∷ r .pushes ∷ r .moves ∷ r .size ∷ take (r .size) (r .group)
 
--- ---- the answer's line: six columns for each number, but twelve for number 6 of a plan
+-- ---- the answer's line: six columns for each number, but twelve for the seventh of a plan, its moves
 
 abbrev pub lineOf : Bool → List ℕ → List ℕ
 lineOf false l = line l
@@ -75,6 +75,7 @@ abbrev pub lineLength : Bool → ℕ → ℕ
 lineLength false size = 6 * size + 1
 lineLength true size = 6 * size + 7
 
+-- no number has more than six columns
 abbrev pub SixColumns : List ℕ → Type 0
 SixColumns l = every (λ (x : ℕ). ltb x 1000000) l ≡ true
 

@@ -61,7 +61,7 @@ module _ (s : Sheet) (v : Sound s) where
   sound-as r e = rw e (view-placed s v _ new-permitted)
 
   -- what the planner answers, with the arrays of the sheet and of the new sheet
-  pub record PlanAnswered (r : Planned) (c : ℕ) : Type 0 where
+  pub record ListedPlan (r : Planned) (c : ℕ) : Type 0 where
     pub count : c ≡ size (bookOf s)
     pub room : c ≤ 200
     pub makespan : r .makespan ≡ planBook (bookOf s) .makespan
@@ -76,9 +76,9 @@ module _ (s : Sheet) (v : Sound s) where
     pub sound : Sound (r .sheet)
     pub inColumns : SmallFigures (planBook (bookOf s))
 
-  pub plan-answered : (r : Planned) (c : ℕ) → r ≡ planOf (bookOf s) → c ≡ n (instance (bookOf s)) → PlanAnswered r c
+  pub listed-plan : (r : Planned) (c : ℕ) → r ≡ planOf (bookOf s) → c ≡ n (instance (bookOf s)) → ListedPlan r c
   unfolding planOf
-  plan-answered r c e f = record {
+  listed-plan r c e f = record {
     count = f ∙ jobs-count (bookOf s);
     room = omega (arith, view-batches s v);
     makespan = ap (λ (q : Planned). q .makespan) e;
@@ -95,17 +95,17 @@ module _ (s : Sheet) (v : Sound s) where
   }
 
   -- the listing's length, and its text
-  pub answered-length : (r : Planned) (c : ℕ) → PlanAnswered r c
+  pub listed-length : (r : Planned) (c : ℕ) → ListedPlan r c
       → length (listing (bookOf s) (planBook (bookOf s))) ≡ 43 + (6 * (r .size + 1) + 1) + 19 * c
-  answered-length r c a =
+  listed-length r c a =
       listing-length (bookOf s) (planBook (bookOf s)) ∙ omega (arith, a .size, a .count)
 
-  pub answered-text : (r : Planned) (c : ℕ) (minutes places : List ℕ) → PlanAnswered r c
+  pub listed-text : (r : Planned) (c : ℕ) (minutes places : List ℕ) → ListedPlan r c
       → minutes ≡ padded 200 (map (λ (j : Job). j .minutes) (instance (bookOf s) .jobs))
       → places ≡ padded 200 (In.places (bookOf (r .sheet)))
       → listingText (figures (r .makespan) (r .bound) (r .level) (r .lifts) (r .pushes) (r .moves)) (r .size) (r .group) c minutes places
       ≡ listing (bookOf s) (planBook (bookOf s))
-  answered-text r c minutes places a g h =
+  listed-text r c minutes places a g h =
       let q : places ≡ padded 200 (planBook (bookOf s) .assignment) =
       h ∙ ap (λ (t : Sheet). padded 200 (In.places (bookOf t))) (a .sheet) ∙ ap (padded 200) new-places in
       rw (a .makespan, a .bound, a .level, a .lifts, a .pushes, a .moves, a .size, a .group, a .count, g, q) (text-of (bookOf s) (planBook (bookOf s)))

@@ -97,8 +97,8 @@ module _ (s buffer after : List ℕ) (h : Hosted) (e : hostedOf h after ≡ host
   pub is-listed : h .refusal ≡ 0 → ListingIn s buffer h after
   is-listed z = listed-case (read s) refl z
 
-  pub is-refused : (h .refusal ≡ 0 → ⊥) → RefusalPrinted s buffer h after
-  is-refused n = refused-case (read s) refl n
+  pub refusal-told : (h .refusal ≡ 0 → ⊥) → RefusalPrinted s buffer h after
+  refusal-told n = refused-case (read s) refl n
 
 -- the refusal's line is all that is printed
 pub row-printed : (s buffer after : List ℕ) (h : Hosted) (end : List ℕ) → RefusalPrinted s buffer h after

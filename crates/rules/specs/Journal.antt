@@ -66,12 +66,12 @@ pub data Journal : Type 0 where
   calls : List Call → Journal
   faulty : ℕ → Journal
 
-abbrev pub first : Call → Journal → Journal
-first c (calls cs) = calls (c ∷ cs)
-first c (faulty j) = faulty j
+abbrev pub withCall : Call → Journal → Journal
+withCall c (calls cs) = calls (c ∷ cs)
+withCall c (faulty j) = faulty j
 
 abbrev pub onCall : ℕ → Part Call → (List ℕ → Journal) → Journal
-onCall j (gives c r) next = first c (next r)
+onCall j (gives c r) next = withCall c (next r)
 onCall j (refuses e) next = faulty j
 
 -- lines from number j on, at most f of them; a line has a byte at least, so as many as there are bytes are enough

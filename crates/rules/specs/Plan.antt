@@ -18,8 +18,8 @@ pub record Plan : Type 0 where
   pub assignment : Assignment
 
 -- the numbers of a search, and of the settling after it
-abbrev pub planOf : Instance → Search → Settled → Plan
-planOf I w z = record {
+abbrev pub planFrom : Instance → Search → Settled → Plan
+planFrom I w z = record {
   makespan = makespan I (z .assignment);
   lowerBound = lowerBound I (w .group);
   level = w .level;
@@ -31,4 +31,4 @@ planOf I w z = record {
 }
 
 unfoldable pub plan : Instance → Assignment → Plan
-plan I x = let w = balance I x in planOf I w (settle I (w .assignment))
+plan I x = let w = balance I x in planFrom I w (settle I (w .assignment))

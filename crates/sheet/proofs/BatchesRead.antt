@@ -39,7 +39,7 @@ held m n minutes places counts lists = record {
 
 module _ (s : List ℕ) (at m n : ℕ) where
   -- i of the n batch lines from at on are read, up to next
-  pub record Sofar (sheet : Sheet) (next i : ℕ) : Type 0 where
+  pub record BatchesSofar (sheet : Sheet) (next i : ℕ) : Type 0 where
     pub batches : List Batch
     pub count : length batches ≡ i
     pub fit : every narrow batches ≡ true
@@ -50,7 +50,7 @@ module _ (s : List ℕ) (at m n : ℕ) where
 
   -- no line is read yet
   pub none-yet : at ≤ length s →
-      Sofar (held m 0 (replicate 200 0) (replicate 200 0) (replicate 200 0) (replicate 4800 0)) at 0
+      BatchesSofar (held m 0 (replicate 200 0) (replicate 200 0) (replicate 200 0) (replicate 4800 0)) at 0
   unfolding every sheetOf
   none-yet h =
       let c : n - 0 ≡ n = omega arith in
@@ -64,7 +64,7 @@ module _ (s : List ℕ) (at m n : ℕ) where
         rest = ap (λ (k : ℕ). batchLines m k 2 [] (drop at s)) c;
       }
 
-  module _ (sheet : Sheet) (next i : ℕ) (f : Sofar sheet next i) where
+  module _ (sheet : Sheet) (next i : ℕ) (f : BatchesSofar sheet next i) where
     pub lists-long : n ≤ 200 → length (sheet .lists) ≡ 4800
     unfolding sheetOf
     lists-long h =
@@ -84,7 +84,7 @@ module _ (s : List ℕ) (at m n : ℕ) where
 
     -- one line more
     pub one-more : (x : Line) (h : next ≤ length s) → LineGiven s next h m x → i < n → n ≤ 200
-        → Sofar (appended sheet (x .minutes) (x .place) (x .count) (x .list)) (x .next) (i + 1)
+        → BatchesSofar (appended sheet (x .minutes) (x .place) (x .count) (x .list)) (x .next) (i + 1)
     one-more x h g l u =
         let b : Batch = g .batch in
         let e : appended sheet (x .minutes) (x .place) (x .count) (x .list)

@@ -167,16 +167,16 @@ module _ (s : List ℕ) (v : ℕ) (h : length s ≡ 6) where
   last-column : drop 5 s ≡ getD s 5 0 ∷ []
   last-column = drop-cons s 5 0 (omega arith) ∙ rw (drop-of-length-le s {i = 6} (omega arith))
 
-  pub column-last : 48 ≤ getD s 5 0 → getD s 5 0 ≤ 57 → fieldAfter v (drop 5 s) ≡ value (10 * v + (getD s 5 0 - 48))
-  column-last l u = rw last-column (last-digit (getD s 5 0) v l u)
+  pub sixth-digit : 48 ≤ getD s 5 0 → getD s 5 0 ≤ 57 → fieldAfter v (drop 5 s) ≡ value (10 * v + (getD s 5 0 - 48))
+  sixth-digit l u = rw last-column (last-digit (getD s 5 0) v l u)
 
-  pub column-low : getD s 5 0 < 48 → fieldAfter v (drop 5 s) ≡ fault
+  pub sixth-low : getD s 5 0 < 48 → fieldAfter v (drop 5 s) ≡ fault
   unfolding _and_
-  column-low l = rw last-column (last-fault (getD s 5 0) v (rw (lt-leb 48 (getD s 5 0) l)))
+  sixth-low l = rw last-column (last-fault (getD s 5 0) v (rw (lt-leb 48 (getD s 5 0) l)))
 
-  pub column-high : 57 < getD s 5 0 → fieldAfter v (drop 5 s) ≡ fault
+  pub sixth-high : 57 < getD s 5 0 → fieldAfter v (drop 5 s) ≡ fault
   unfolding _and_
-  column-high u = rw last-column (last-fault (getD s 5 0) v (rw (le-leb 48 (getD s 5 0) (omega arith), lt-leb (getD s 5 0) 57 u)))
+  sixth-high u = rw last-column (last-fault (getD s 5 0) v (rw (le-leb 48 (getD s 5 0) (omega arith), lt-leb (getD s 5 0) 57 u)))
 
 -- ---- a number of six columns
 

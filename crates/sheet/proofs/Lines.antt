@@ -24,16 +24,16 @@ use Rattle.sheet.specs.Lines.{codedField, placingOf}
 
 -- ---- a number between two
 
-pub between : (a b x : ℕ) → a ≤ x → x ≤ b → leb a x and leb x b ≡ true
-between a b x l u = and-mk _ _ (le-leb a x l) (le-leb x b u)
+pub range-in : (a b x : ℕ) → a ≤ x → x ≤ b → leb a x and leb x b ≡ true
+range-in a b x l u = and-mk _ _ (le-leb a x l) (le-leb x b u)
 
-pub below : (a b x : ℕ) → x < a → leb a x and leb x b ≡ false
+pub range-below : (a b x : ℕ) → x < a → leb a x and leb x b ≡ false
 unfolding _and_
-below a b x h = rw (lt-leb a x h)
+range-below a b x h = rw (lt-leb a x h)
 
-pub above : (a b x : ℕ) → a ≤ x → b < x → leb a x and leb x b ≡ false
+pub range-above : (a b x : ℕ) → a ≤ x → b < x → leb a x and leb x b ≡ false
 unfolding _and_
-above a b x l h = rw (le-leb a x l, lt-leb x b h)
+range-above a b x l h = rw (le-leb a x l, lt-leb x b h)
 
 -- ---- the field at a place
 
@@ -94,13 +94,13 @@ next-at s at h = omega (arith, length-drop at s)
 -- ---- who a list names, from place i on
 
 module _ (l : List ℕ) (i x : ℕ) where
-  pub mem-end : length l ≤ i → mem x (drop i l) ≡ false
+  pub names-end : length l ≤ i → mem x (drop i l) ≡ false
   unfolding mem
-  mem-end h = rw (drop-of-length-le l h)
+  names-end h = rw (drop-of-length-le l h)
 
-  pub mem-next : i < length l → mem x (drop i l) ≡ eqb (getD l i 0) x or mem x (drop (i + 1) l)
+  pub names-next : i < length l → mem x (drop i l) ≡ eqb (getD l i 0) x or mem x (drop (i + 1) l)
   unfolding mem
-  mem-next h = rw (drop-cons l i 0 h) (rw add-one)
+  names-next h = rw (drop-cons l i 0 h) (rw add-one)
 
 pub or-step : (f t b : Bool) → (f || t) or b ≡ f or (t or b)
 unfolding _or_

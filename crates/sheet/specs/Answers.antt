@@ -39,7 +39,7 @@ coded sheetFull = SheetFull
 coded levelAbove = LevelAbove
 coded bufferShort = BufferShort
 
--- both have one number
+-- a refusal and its case have one number
 pub coded-number : (e : R.Refusal) → numberOf (coded e) ≡ number e
 coded-number malformed = refl
 coded-number badSize = refl

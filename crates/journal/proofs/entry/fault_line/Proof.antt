@@ -7,7 +7,7 @@ use borrow.Author.Needs.{needs}
 use lib.ListN.{length, drop}
 use Rattle.rules.specs.Journal.{journal}
 use Rattle.journal.specs.Entry.{linesFrom, faultOf}
-use Rattle.journal.proofs.Linewise.{journal-is, line-given, lines-first, lines-fault, lines-end, fault-first}
+use Rattle.journal.proofs.Linewise.{journal-is, entry-given, lines-first, lines-fault, lines-end, fault-first}
 use Rattle.journal.proofs.entry.fault_line.Statement.{statement}
 use Rattle.journal.proofs.entry.fault_line.Tie as tie
 
@@ -40,7 +40,7 @@ loop-less c =
     let at = c .before .before .before .loop .at in
     let e = c .before .entry-at .result in
     let q = c .before .entry-at .ensures in
-    let g = line-given s at e q (c .before .before .before .loop .inv .0) (c .if1 .left) in
+    let g = entry-given s at e q (c .before .before .before .loop .inv .0) (c .if1 .left) in
     omega (arith, g .past, g .room, c .before .before .loop-test .taken)
 
 loop-again : tie.Need-loop-again Inv-loop μ-loop
@@ -49,7 +49,7 @@ loop-again c =
     let at = c .before .before .before .loop .at in
     let e = c .before .entry-at .result in
     let q = c .before .entry-at .ensures in
-    let g = line-given s at e q (c .before .before .before .loop .inv .0) (c .if1 .left) in
+    let g = entry-given s at e q (c .before .before .before .loop .inv .0) (c .if1 .left) in
     let j = c .before .before .before .loop .line in (
       g .room,
       omega (arith, g .past, c .before .before .before .loop .inv .1),

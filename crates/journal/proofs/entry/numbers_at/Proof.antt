@@ -8,12 +8,12 @@ use borrow.Author.Needs.{needs}
 use lib.ListN.{set}
 use Rattle.sheet.specs.declared.read.Field.{Field}
 use Rattle.sheet.proofs.Lines.{NumberRead, FieldSays, field-says}
-use Rattle.journal.proofs.Numbers.{row-fills, row-full, Sofar, none-yet, then-missing, one-more, all-read}
+use Rattle.journal.proofs.Numbers.{row-fills, row-full, NumbersSofar, none-yet, then-missing, one-more, all-read}
 use Rattle.journal.proofs.entry.numbers_at.Statement.{statement}
 use Rattle.journal.proofs.entry.numbers_at.Tie as tie
 
 abbrev Inv-loop : tie.InvT-loop
-Inv-loop s at count list₀ k₀ next₀ list k next = Sofar s at count list k next
+Inv-loop s at count list₀ k₀ next₀ list k next = NumbersSofar s at count list k next
 
 abbrev μ-loop : tie.MeasureT-loop
 μ-loop s at count list₀ k₀ next₀ list k next = count - k

@@ -1,7 +1,7 @@
 -- The plan's numbers fit their columns, and the text from the arrays is the listing of the sheet's book.
 use native.Mathlib.Omega.{arith}
 use Rattle.sheet.specs.Represent.{bookOf}
-use Rattle.listing.proofs.Planned.{PlanAnswered, plan-answered, answered-length, answered-text}
+use Rattle.listing.proofs.Planned.{ListedPlan, listed-plan, listed-length, listed-text}
 use Rattle.listing.proofs.Hosting.{into-short, into-long}
 use borrow.Author.Needs.{needs}
 use Rattle.listing.proofs.host.list_into.Statement.{statement}
@@ -9,8 +9,8 @@ use Rattle.listing.proofs.host.list_into.Tie as tie
 
 -- what is planned
 planned : (c : tie.After-batches)
-    → PlanAnswered (c .before .before .before .args .sheet) (c .before .before .before .pre) (c .before .plan .result) (c .batches .result)
-planned c = plan-answered _ (c .before .before .before .pre) _ _ (c .before .plan .ensures .is) (c .batches .ensures)
+    → ListedPlan (c .before .before .before .args .sheet) (c .before .before .before .pre) (c .before .plan .result) (c .batches .result)
+planned c = listed-plan _ (c .before .before .before .pre) _ _ (c .before .plan .ensures .is) (c .batches .ensures)
 
 plan-requires : tie.Need-plan-requires
 plan-requires c κs = search needs
@@ -28,7 +28,7 @@ returns : tie.Need-returns
 returns c =
     let at = c .before .before .before in
     let a = planned at in
-    let l = answered-length _ (at .before .before .before .pre) _ _ a in
+    let l = listed-length _ (at .before .before .before .pre) _ _ a in
     rw (c .code .ensures) (into-short (bookOf (at .before .before .before .args .sheet)) _ (omega (arith, l)))
 
 minutes-requires : tie.Need-minutes-requires
@@ -68,9 +68,9 @@ returns-2 c =
     let at = c .before .before .before .before .before .before .before .before .before .before .before .before in
     let v = at .before .before .before .pre in
     let a = planned at in
-    let l = answered-length _ v _ _ a in
+    let l = listed-length _ v _ _ a in
     let t =
-    answered-text _ v _ _ _ _ a (c .before .before .before .before .before .before .before .before .before .minutes .ensures)
+    listed-text _ v _ _ _ _ a (c .before .before .before .before .before .before .before .before .before .minutes .ensures)
     (c .before .before .before .before .before .before .before .places .ensures) in
     let i = c .before .before .before .before .before .before .before .before .before .before .if1 in
     let d = c .before .before .before .before .before .before .before .before .before .before .before .listing-length .ensures in

@@ -1,6 +1,6 @@
 -- The buffer is long enough for every listing, so what the host refuses is a sheet.
 use native.Mathlib.Omega.{arith}
-use Rattle.listing.proofs.Printing.{is-listed, RefusalPrinted, is-refused, row-printed, program-short}
+use Rattle.listing.proofs.Printing.{is-listed, RefusalPrinted, refusal-told, row-printed, program-short}
 use borrow.Author.Needs.{needs}
 use Rattle.listing.proofs.print.print.Statement.{statement}
 use Rattle.listing.proofs.print.print.Tie as tie
@@ -11,7 +11,7 @@ unlisted : (c : tie.Else1)
     (c .before .before .before .before .before .before .before .args .out .now) (c .before .before .before .bankplan-plan .result)
     (c .before .before .before .bankplan-plan .last .1 .0)
 unlisted c =
-    is-refused _ _ _ _ (c .before .before .before .bankplan-plan .ensures)
+    refusal-told _ _ _ _ (c .before .before .before .bankplan-plan .ensures)
     (c .before .before .before .before .before .before .before .pre) (λ z. omega arith)
 
 bankplan-plan-requires : tie.Need-bankplan-plan-requires

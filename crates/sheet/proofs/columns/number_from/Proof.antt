@@ -9,7 +9,7 @@ use borrow.Author.Tests.{not-true, not-false}
 use lib.ListN.{length, getD, drop}
 use Rattle.rules.specs.Field.{blanks}
 use Rattle.sheet.specs.Columns.{follows}
-use Rattle.sheet.proofs.Fields.{follows-ones, ten-more, ten-fits, ten-some, fieldAfter, column-more, column-fault, column-last, column-low, column-high, numbered-value}
+use Rattle.sheet.proofs.Fields.{follows-ones, ten-more, ten-fits, ten-some, fieldAfter, column-more, column-fault, sixth-digit, sixth-low, sixth-high, numbered-value}
 use Rattle.sheet.proofs.columns.number_from.Statement.{statement}
 use Rattle.sheet.proofs.columns.number_from.Tie as tie
 
@@ -81,10 +81,10 @@ shared-slice-read-u : tie.Need-shared-slice-read-u Inv-loop μ-loop
 shared-slice-read-u c = search needs
 
 returns-2 : tie.Need-returns-2 Inv-loop μ-loop
-returns-2 c = sym (column-low (text (c .before .before .before .before .before)) (c .before .before .before .loop .v) (c .before .before .before .before .before .pre .0) (c .if2 .taken)) ∙ left (c .before .before)
+returns-2 c = sym (sixth-low (text (c .before .before .before .before .before)) (c .before .before .before .loop .v) (c .before .before .before .before .before .pre .0) (c .if2 .taken)) ∙ left (c .before .before)
 
 returns-3 : tie.Need-returns-3 Inv-loop μ-loop
-returns-3 c = sym (column-high (text (c .before .before .before .before .before .before)) (c .before .before .before .before .loop .v) (c .before .before .before .before .before .before .pre .0) (c .if3 .taken)) ∙ left (c .before .before .before)
+returns-3 c = sym (sixth-high (text (c .before .before .before .before .before .before)) (c .before .before .before .before .loop .v) (c .before .before .before .before .before .before .pre .0) (c .if3 .taken)) ∙ left (c .before .before .before)
 
 mul-result : tie.Need-mul-result Inv-loop μ-loop
 mul-result c = omega (arith, small (c .before .before .before .before))
@@ -102,7 +102,7 @@ returns-4 c =
     let h : 10 * v + (u - 48) < 1000000 = omega (arith, small (c .before .before .before .before .before), c .before .if3 .left) in
     rw (c .wide2 .ensures .0)
     (numbered-value (10 * v + (u - 48)) h
-    ∙ sym (column-last (text (c .before .before .before .before .before .before .before)) v (c .before .before .before .before .before .before .before .pre .0) (c .before .before .if2 .left) (c .before .if3 .left))
+    ∙ sym (sixth-digit (text (c .before .before .before .before .before .before .before)) v (c .before .before .before .before .before .before .before .pre .0) (c .before .before .if2 .left) (c .before .if3 .left))
     ∙ left (c .before .before .before .before))
 
 pub number-from-spec : {M : Type 1} → statement M

@@ -11,7 +11,7 @@ use Rattle.rules.specs.Sheet.{Batch, goodMinutes}
 use Rattle.rules.specs.Read.{Part, andThen, orRefuse, numberAt, batchLine}
 use Rattle.sheet.specs.declared.read.Field.{Field}
 use Rattle.sheet.specs.Lines.{lineList}
-use Rattle.sheet.proofs.Lines.{between, below, above, NumberRead, FieldSays, field-says}
+use Rattle.sheet.proofs.Lines.{range-in, range-below, range-above, NumberRead, FieldSays, field-says}
 use Rattle.sheet.proofs.read.batch_line.Statement.{statement}
 use Rattle.sheet.proofs.read.batch_line.Tie as tie
 
@@ -59,7 +59,7 @@ second c = field-says (text (start2 c)) (at2 c) (length-read (length-known c) .r
 fromPlace : (c : tie.After-field-at) → whole (start2 c) ≡
     andThen (numberAt (drop (at2 c) (text (start2 c)))) (λ p u. fromCount (start2 c .args .m) (minutes-of (length-known c)) p u)
 unfolding batchLine goodMinutes
-fromPlace c = rw (length-read (length-known c) .number, between 1 1440 _ (c .before .before .before .if1 .left) (c .before .before .if2 .left))
+fromPlace c = rw (length-read (length-known c) .number, range-in 1 1440 _ (c .before .before .before .if1 .left) (c .before .before .if2 .left))
 
 -- the place was read
 abbrev field2 : tie.After-known-told2 → tie.After-field-at
@@ -139,7 +139,7 @@ refused-requires-2 c κs = search needs
 
 returns-2 : tie.Need-returns-2
 unfolding batchLine goodMinutes
-returns-2 c = rw (length-read (c .before .before) .number, below 1 1440 _ (c .before .if1 .taken)) (c .refused2 .ensures)
+returns-2 c = rw (length-read (c .before .before) .number, range-below 1 1440 _ (c .before .if1 .taken)) (c .refused2 .ensures)
 
 cast-if2 : tie.Need-cast-if2
 cast-if2 c = search needs
@@ -149,7 +149,7 @@ refused-requires-3 c κs = search needs
 
 returns-3 : tie.Need-returns-3
 unfolding batchLine goodMinutes
-returns-3 c = rw (length-read (c .before .before .before) .number, above 1 1440 _ (c .before .before .if1 .left) (c .before .if2 .taken)) (c .refused3 .ensures)
+returns-3 c = rw (length-read (c .before .before .before) .number, range-above 1 1440 _ (c .before .before .if1 .left) (c .before .if2 .taken)) (c .refused3 .ensures)
 
 add-second : tie.Need-add-second
 add-second c = search needs
@@ -209,7 +209,7 @@ refused-requires-6 : tie.Need-refused-requires-6
 refused-requires-6 c κs = search needs
 
 returns-6 : tie.Need-returns-6
-returns-6 c = rw (judged (c .before .before), below 1 _ _ (c .before .if3 .taken)) (c .refused6 .ensures)
+returns-6 c = rw (judged (c .before .before), range-below 1 _ _ (c .before .if3 .taken)) (c .refused6 .ensures)
 
 cast-if4 : tie.Need-cast-if4
 cast-if4 c = search needs
@@ -218,7 +218,7 @@ refused-requires-7 : tie.Need-refused-requires-7
 refused-requires-7 c κs = search needs
 
 returns-7 : tie.Need-returns-7
-returns-7 c = rw (judged (c .before .before .before), above 1 _ _ (c .before .before .if3 .left) (c .before .if4 .taken)) (c .refused7 .ensures)
+returns-7 c = rw (judged (c .before .before .before), range-above 1 _ _ (c .before .before .if3 .left) (c .before .if4 .taken)) (c .refused7 .ensures)
 
 add-fourth : tie.Need-add-fourth
 add-fourth c = search needs
@@ -233,7 +233,7 @@ line-list-requires : tie.Need-line-list-requires
 line-list-requires c κs = (count-read (c .before .before) .room, start3 (field3 (c .before .before)) .pre .1, c .before .if3 .left, c .if4 .left)
 
 returns-8 : tie.Need-returns-8
-returns-8 c = rw (judged (c .before .before .before), between 1 _ _ (c .before .before .if3 .left) (c .before .if4 .left)) (c .line-list .ensures)
+returns-8 c = rw (judged (c .before .before .before), range-in 1 _ _ (c .before .before .if3 .left) (c .before .if4 .left)) (c .line-list .ensures)
 
 pub batch-line-spec : {M : Type 1} → statement M
 batch-line-spec =

@@ -7,12 +7,12 @@ use mathlib.Core.List.{List}
 use lib.ListN.{length}
 use Rattle.sheet.specs.declared.Refusal.the-variants.{Nothing}
 use Rattle.sheet.proofs.PartsRead.{LineGiven, line-given, some-refusal}
-use Rattle.sheet.proofs.BatchesRead.{held, Sofar, none-yet, lists-long, one-more, then-refused, left-over, all-read}
+use Rattle.sheet.proofs.BatchesRead.{held, BatchesSofar, none-yet, lists-long, one-more, then-refused, left-over, all-read}
 use Rattle.sheet.proofs.read.batch_lines.Statement.{statement}
 use Rattle.sheet.proofs.read.batch_lines.Tie as tie
 
 abbrev Inv-loop : tie.InvT-loop
-Inv-loop s at m n minutes₀ places₀ counts₀ lists₀ next₀ i₀ minutes places counts lists next i = Sofar s at m n (held m i minutes places counts lists) next i
+Inv-loop s at m n minutes₀ places₀ counts₀ lists₀ next₀ i₀ minutes places counts lists next i = BatchesSofar s at m n (held m i minutes places counts lists) next i
 
 abbrev μ-loop : tie.MeasureT-loop
 μ-loop s at m n minutes₀ places₀ counts₀ lists₀ next₀ i₀ minutes places counts lists next i = n - i

@@ -11,7 +11,7 @@ use Rattle.rules.specs.Refusal.{badSize}
 use Rattle.rules.specs.Sheet.{maxBatches, goodInstruments}
 use Rattle.rules.specs.Read.{Part, Head, gives, andThen, orRefuse, numberAt, endOfLine, headLine}
 use Rattle.sheet.specs.declared.read.Field.{Field}
-use Rattle.sheet.proofs.Lines.{between, below, above, NumberRead, FieldSays, field-says, end-missing, end-other, end-there, next-at}
+use Rattle.sheet.proofs.Lines.{range-in, range-below, range-above, NumberRead, FieldSays, field-says, end-missing, end-other, end-there, next-at}
 use Rattle.sheet.proofs.read.head_line.Statement.{statement}
 use Rattle.sheet.proofs.read.head_line.Tie as tie
 
@@ -57,7 +57,7 @@ onward : (c : tie.After-field-at2) → headLine (rest (start2 c)) ≡
     andThen (numberAt (drop (start2 c .args .at + 6) (text (start2 c)))) (λ n r.
     orRefuse (leb n maxBatches) badSize (ended (m-of (m-known c)) n r))
 unfolding headLine goodInstruments
-onward c = rw (m-read (m-known c) .number, between 1 24 _ (c .before .before .before .if1 .left) (c .before .before .if2 .left))
+onward c = rw (m-read (m-known c) .number, range-in 1 24 _ (c .before .before .before .if1 .left) (c .before .before .if2 .left))
 
 -- n was read
 abbrev field2 : tie.After-known-told2 → tie.After-field-at2
@@ -112,7 +112,7 @@ refused-requires-2 c κs = search needs
 
 returns-2 : tie.Need-returns-2
 unfolding headLine goodInstruments
-returns-2 c = rw (m-read (c .before .before) .number, below 1 24 _ (c .before .if1 .taken)) (c .refused2 .ensures)
+returns-2 c = rw (m-read (c .before .before) .number, range-below 1 24 _ (c .before .if1 .taken)) (c .refused2 .ensures)
 
 cast-if2 : tie.Need-cast-if2
 cast-if2 c = search needs
@@ -122,7 +122,7 @@ refused-requires-3 c κs = search needs
 
 returns-3 : tie.Need-returns-3
 unfolding headLine goodInstruments
-returns-3 c = rw (m-read (c .before .before .before) .number, above 1 24 _ (c .before .before .if1 .left) (c .before .if2 .taken)) (c .refused3 .ensures)
+returns-3 c = rw (m-read (c .before .before .before) .number, range-above 1 24 _ (c .before .before .if1 .left) (c .before .if2 .taken)) (c .refused3 .ensures)
 
 add-second : tie.Need-add-second
 add-second c = search needs

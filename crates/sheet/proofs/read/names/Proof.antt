@@ -7,7 +7,7 @@ use borrow.Author.Needs.{needs}
 use lib.ListN.{length, drop}
 use Rattle.rules.specs.Fold.{_or_, mem}
 use Rattle.theory.proofs.Logic.{or-false}
-use Rattle.sheet.proofs.Lines.{mem-end, mem-next, or-step}
+use Rattle.sheet.proofs.Lines.{names-end, names-next, or-step}
 use Rattle.sheet.proofs.read.names.Statement.{statement}
 use Rattle.sheet.proofs.read.names.Tie as tie
 
@@ -37,12 +37,12 @@ loop-again : tie.Need-loop-again Inv-loop μ-loop
 loop-again c = (
   omega arith,
   or-step (c .before .before .loop .found) _ _
-      ∙ ap (λ (t : Bool). c .before .before .loop .found or t) (sym (mem-next _ _ _ (c .before .loop-test .taken))) ∙ c .before .before .loop .inv .1,
+      ∙ ap (λ (t : Bool). c .before .before .loop .found or t) (sym (names-next _ _ _ (c .before .loop-test .taken))) ∙ c .before .before .loop .inv .1,
 )
 
 returns : tie.Need-returns Inv-loop μ-loop
 returns c =
-    sym (or-false (c .before .loop .found)) ∙ ap (λ (t : Bool). c .before .loop .found or t) (sym (mem-end _ _ _ (c .loop-test .left))) ∙ c .before .loop .inv .1
+    sym (or-false (c .before .loop .found)) ∙ ap (λ (t : Bool). c .before .loop .found or t) (sym (names-end _ _ _ (c .loop-test .left))) ∙ c .before .loop .inv .1
 
 pub names-spec : {M : Type 1} → statement M
 names-spec =
