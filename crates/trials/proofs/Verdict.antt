@@ -7,7 +7,7 @@ use native.Mathlib.Omega.{arith}
 use lib.ListN.{take, replicate, getD-replicate}
 use lib.Dec.{ltb, leb}
 use borrow.Author.Tests.{ne-eqb}
-use Rattle.rules.specs.Fold.{_or_, at, mem, firstTo, anyTo, thoseTo}
+use Rattle.rules.specs.Fold.{at, mem, firstTo, anyTo, thoseTo}
 use Rattle.rules.specs.Instance.{Instance, Assignment, n}
 use Rattle.rules.specs.Load.{load, longest}
 use Rattle.rules.specs.Trial as T
