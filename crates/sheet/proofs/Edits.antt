@@ -4,7 +4,8 @@ use mathlib.Core.Path.{_≡_, refl, sym, ap, _∙_}
 use mathlib.Core.Bool.{Bool, true, false}
 use mathlib.Core.List.{List, [], _∷_, _++_}
 use native.Mathlib.Omega.{arith}
-use lib.ListN.{length, getD}
+use lib.ListN.{length, getD, take, replicate}
+use lib.Seq.{take-at}
 use lib.Dec.{leb, ltb}
 use borrow.Author.Tests.{lt-ltb, le-ltb}
 use Rattle.rules.specs.Fold.{_and_, mem}
@@ -101,13 +102,15 @@ module _ (s : Sheet) (v : Sound s) where
 
   pub requalify-done : (b : ℕ) (l : List ℕ) (x : ℕ) (row : List ℕ) (y : Sheet) → leb 1 b and leb b (s .n) ≡ true →
       goodList (s .m) l ≡ true →
-      x ≡ kept (getD (s .places) (b - 1) 0) l → row ≡ padded 24 l → y ≡ requalified s (b - 1) x (length l) row →
+      x ≡ kept (getD (s .places) (b - 1) 0) (take (length l) row) → row ≡ padded 24 l → y ≡ requalified s (b - 1) x (length l) row →
       answer Nothing y ≡ editOf s (requalify b l)
   unfolding editOf edit
   requalify-done b l x row y e g f d u =
       let r = in-range b (s .n) e in
       let z = book-size s in
-      let p : x ≡ kept (batch (bookOf s) b .place) l = f ∙ ap (λ (c : Batch). kept (c .place) l) (sym (batch-is b e)) in
+      let w : take (length l) row ≡ l = ap (take (length l)) d ∙ take-at l (replicate (24 - length l) 0) (length l) refl in
+      let p : x ≡ kept (batch (bookOf s) b .place) l =
+      f ∙ ap (kept (getD (s .places) (b - 1) 0)) w ∙ ap (λ (c : Batch). kept (c .place) l) (sym (batch-is b e)) in
       let q : requalified s (b - 1) (kept (batch (bookOf s) b .place) l) (length l) (padded 24 l)
       ≡ sheetOf (withBatch (bookOf s) b (listing (batch (bookOf s) b) l (kept (batch (bookOf s) b .place) l))) =
       ap (λ (t : Sheet). requalified t (b - 1) (kept (batch (bookOf s) b .place) l) (length l) (padded 24 l)) (sym (v .arrays))

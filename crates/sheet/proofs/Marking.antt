@@ -21,7 +21,7 @@ unfolding listTo
 length-listTo zero f = refl
 length-listTo (suc n) f = omega (arith, length-append (listTo n f) (f (suc n) ∷ []), length-listTo n f)
 
-getD-listTo : (n : ℕ) (f : ℕ → ℕ) (k : ℕ) → k < n → getD (listTo n f) k 0 ≡ f (suc k)
+pub getD-listTo : (n : ℕ) (f : ℕ → ℕ) (k : ℕ) → k < n → getD (listTo n f) k 0 ≡ f (suc k)
 unfolding listTo
 getD-listTo zero f k h = absurd (omega arith)
 getD-listTo (suc n) f k h =

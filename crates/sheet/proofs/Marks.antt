@@ -5,20 +5,20 @@ use mathlib.Core.Bool.{true}
 use mathlib.Core.List.{List, [], _∷_, _++_, append-nil, append-assoc}
 use native.Mathlib.Omega.{arith}
 use native.Mathlib.Numerals.{add-one}
-use lib.ListN.{length, getD, take, drop, replicate, length-append, length-replicate, length-drop, List·getD-map}
+use lib.ListN.{length, getD, take, drop, replicate, length-append, length-replicate, length-drop}
 use lib.Seq.{paste, length-paste, take-suc, take-all, getD-take, getD-drop, length-take-le}
 use lib.Dec.{leb}
 use borrow.Author.Tests.{leb-true}
-use Rattle.rules.specs.Sheet.{Batch, noBatchHere, isInstrument, goodList, goodBatch}
-use Rattle.rules.specs.Instance.{Job, noJob, n, jobOf, instance}
+use Rattle.rules.specs.Sheet.{Batch, isInstrument, goodList}
+use Rattle.rules.specs.Instance.{Job, noJob, n, instance}
 use Rattle.theory.proofs.Logic.{and-left, and-right}
 use Rattle.theory.proofs.Member.{every-at}
-use Rattle.theory.proofs.Sound.{sound-is, good-is, jobs-count}
+use Rattle.theory.proofs.Sound.{jobs-count}
 use Rattle.sheet.specs.declared.Sheet.{Sheet}
 use Rattle.sheet.specs.Represent.{padded, batchAt, bookOf, Sound}
 use Rattle.sheet.specs.View.{marksOf, markRows, marks}
 use Rattle.sheet.proofs.Padded.{padded-room, paste-at, paste-append}
-use Rattle.sheet.proofs.SoundArrays.{book-m, book-size, book-at, good-entry, few-instruments, short-list}
+use Rattle.sheet.proofs.SoundArrays.{book-m, book-size, book-at, job-list, good-entry, few-instruments, good-index, list-size}
 use Rattle.sheet.proofs.Marking.{length-marks}
 
 -- ---- rows
@@ -46,11 +46,6 @@ length-rows-to counts lists zero = refl
 length-rows-to counts lists (suc i) =
     let l : List ℕ = take (getD counts i 0) (drop (i * 24) lists) in
     omega (arith, length-append (rowsTo counts lists i) (marksOf l), length-marks l, length-rows-to counts lists i)
-
-job-list : (s : Sheet) (i : ℕ) → i < s .n → getD (instance (bookOf s) .jobs) i noJob .list ≡ batchAt s i .list
-job-list s i h =
-    ap (λ (j : Job). j .list) (List·getD-map jobOf (bookOf s .batches) i noBatchHere)
-    ∙ ap (λ (b : Batch). b .list) (book-at s i h)
 
 rows-are : (s : Sheet) (i : ℕ) → i ≤ s .n → rowsTo (s .counts) (s .lists) i ≡ markRows (take i (instance (bookOf s) .jobs))
 unfolding markRows
@@ -125,11 +120,9 @@ module _ (s : Sheet) (v : Sound s) where
   entry-range i k h g w =
       let c = getD (s .counts) i 0 in
       let l : List ℕ = take c (drop (i * 24) (s .lists)) in
-      let u = sound-is (bookOf s) (v .book) in
-      let b = good-is (bookOf s .m) _
-      (every-at (goodBatch (bookOf s .m)) (bookOf s .batches) noBatchHere i (u .batches) (omega (arith, book-size s))) in
+      let b = good-index s v i h in
       let q : goodList (bookOf s .m) l ≡ true = ap (λ (x : Batch). goodList (bookOf s .m) (x .list)) (sym (book-at s i h)) ∙ b .list in
-      let d : c ≤ length (drop (i * 24) (s .lists)) = omega (arith, length-drop (i * 24) (s .lists), short-list s v i h) in
+      let d : c ≤ length (drop (i * 24) (s .lists)) = omega (arith, length-drop (i * 24) (s .lists), list-size s v i h .1) in
       let f : k < length l = omega (arith, length-take-le c (drop (i * 24) (s .lists)) d) in
       let e : getD l k 0 ≡ getD (s .lists) (i * 24 + k) 0 =
       getD-take c (drop (i * 24) (s .lists)) k 0 g ∙ getD-drop (i * 24) (s .lists) k 0 in (

@@ -4,15 +4,16 @@ use mathlib.Core.Path.{_≡_, refl, sym, ap, _∙_}
 use mathlib.Core.Bool.{true}
 use mathlib.Core.List.{List, [], _∷_}
 use native.Mathlib.Omega.{arith}
-use lib.ListN.{length, getD, length-append, List·getD-append}
+use lib.ListN.{length, getD, length-append, List·getD-append, List·getD-map}
 use lib.Seq.{getD-at}
 use lib.Dec.{leb, ltb}
 use borrow.Author.Tests.{leb-true, ltb-true, ltb-false}
 use Rattle.rules.specs.Fold.{_and_, mem, every}
-use Rattle.rules.specs.Sheet.{Book, Batch, size, batch, isBatch, noBatchHere, goodInstruments, isInstrument, goodList}
+use Rattle.rules.specs.Sheet.{Book, Batch, size, batch, isBatch, noBatchHere, goodInstruments, isInstrument, goodList, goodBatch}
+use Rattle.rules.specs.Instance.{Job, noJob, jobOf, instance}
 use Rattle.theory.proofs.Logic.{byTest, and-left, and-right}
 use Rattle.theory.proofs.Member.{every-at}
-use Rattle.theory.proofs.Sound.{sound-is, good-batch, good-ranged}
+use Rattle.theory.proofs.Sound.{Good, good-is, sound-is, good-batch, good-ranged}
 use Rattle.sheet.specs.declared.Sheet.{Sheet}
 use Rattle.sheet.specs.Represent.{sheetOf, batchAt, batchesTo, bookOf, Sound}
 use Rattle.sheet.proofs.Represent.{narrow, column, sound-narrow}
@@ -45,6 +46,11 @@ batches-at s (suc n) i h =
 pub book-at : (s : Sheet) (i : ℕ) → i < s .n → getD (bookOf s .batches) i noBatchHere ≡ batchAt s i
 unfolding bookOf
 book-at s i h = batches-at s (s .n) i h
+
+pub job-list : (s : Sheet) (i : ℕ) → i < s .n → getD (instance (bookOf s) .jobs) i noJob .list ≡ batchAt s i .list
+job-list s i h =
+    ap (λ (j : Job). j .list) (List·getD-map jobOf (bookOf s .batches) i noBatchHere)
+    ∙ ap (λ (b : Batch). b .list) (book-at s i h)
 
 pub number-at : (k : Book) (b : ℕ) → 0 < b → batch k b ≡ getD (k .batches) (b - 1) noBatchHere
 number-at k zero h = absurd (omega arith)
@@ -91,14 +97,20 @@ module _ (s : Sheet) (v : Sound s) where
   pub narrow-book : every narrow (bookOf s .batches) ≡ true
   narrow-book = sound-narrow (bookOf s) (v .book)
 
-  pub short-list : (i : ℕ) → i < s .n → getD (s .counts) i 0 ≤ 24
-  short-list i h =
-      let bs = bookOf s .batches in
-      let l : length (getD bs i noBatchHere .list) ≤ 24 =
-      leb-true _ _ (every-at narrow bs noBatchHere i narrow-book (omega (arith, book-size s))) in
-      let e : getD (s .counts) i 0 ≡ length (getD bs i noBatchHere .list) =
+  -- the batch at an index
+  pub good-index : (i : ℕ) → i < s .n → Good (bookOf s .m) (getD (bookOf s .batches) i noBatchHere)
+  good-index i h =
+      good-is (bookOf s .m) _
+      (every-at (goodBatch (bookOf s .m)) (bookOf s .batches) noBatchHere i (sound-is (bookOf s) (v .book) .batches)
+      (omega (arith, book-size s)))
+
+  -- its list's size
+  pub list-size : (i : ℕ) → i < s .n → (0 < getD (s .counts) i 0) × (getD (s .counts) i 0 ≤ 24)
+  list-size i h =
+      let g = good-long (bookOf s .m) _ (good-index i h .list) in
+      let e : getD (s .counts) i 0 ≡ length (getD (bookOf s .batches) i noBatchHere .list) =
       ap (λ (t : Sheet). getD (t .counts) i 0) (sym (v .arrays)) ∙ counts-at (bookOf s) i in
-      omega arith
+      (omega (arith, g .0), omega (arith, g .1, few-instruments, book-m s))
 
   -- a batch's index
   pub index : (b : ℕ) → leb 1 b and leb b (s .n) ≡ true → (0 < b) × (b - 1 < s .n) × (b - 1 < 200)

@@ -9,21 +9,20 @@ use lib.Seq.{take-at, getD-append-add}
 use lib.Dec.{leb, ltb}
 use borrow.Author.Tests.{leb-true, ltb-true, ltb-false}
 use Rattle.rules.specs.Fold.{pick, at, mem, sumTo}
-use Rattle.rules.specs.Sheet.{Book, noBatchHere, goodInstruments, goodMinutes, goodBatch}
+use Rattle.rules.specs.Sheet.{Book, noBatchHere, goodInstruments, goodMinutes}
 use Rattle.rules.specs.Instance.{Instance, Assignment, Job, noJob, n, jobOf, instance, places, minutesOf, listOf, eligible}
 use Rattle.rules.specs.Run.{withPlaces}
 use Rattle.theory.proofs.Small.{Small}
 use Rattle.theory.proofs.Logic.{byTest, and-left, and-right}
-use Rattle.theory.proofs.Member.{every-at}
 use Rattle.theory.proofs.Fold.{sumTo-bound}
 use Rattle.theory.proofs.Valid.{Valid, Permitted}
-use Rattle.theory.proofs.Sound.{Good, good-is, sound-is, jobs-count, sound-valid, sound-permitted, placed-sound}
+use Rattle.theory.proofs.Sound.{sound-is, jobs-count, sound-valid, sound-permitted, placed-sound}
 use Rattle.sheet.specs.declared.Sheet.{Sheet}
 use Rattle.sheet.specs.Represent.{padded, sheetOf, bookOf, Sound}
 use Rattle.sheet.specs.View.{marksOf, markRows, marks}
 use Rattle.sheet.proofs.Padded.{getD-zeros}
 use Rattle.sheet.proofs.Represent.{book-sheet, sheet-sound}
-use Rattle.sheet.proofs.SoundArrays.{book-size, good-long}
+use Rattle.sheet.proofs.SoundArrays.{book-size, good-long, good-index}
 use Rattle.sheet.proofs.Marking.{length-marks, mark-at}
 
 -- ---- the arrays
@@ -107,18 +106,11 @@ module _ (s : Sheet) (v : Sound s) where
   pub view-permitted : Permitted (instance (bookOf s)) (places (bookOf s))
   view-permitted = sound-permitted (bookOf s) (v .book)
 
-  -- a batch of the book
-  good-job : (b : ℕ) → b < n (instance (bookOf s)) → Good (bookOf s .m) (getD (bookOf s .batches) b noBatchHere)
-  good-job b h =
-      good-is (bookOf s .m) _
-      (every-at (goodBatch (bookOf s .m)) (bookOf s .batches) noBatchHere b (sound-is (bookOf s) (v .book) .batches)
-      (omega (arith, jobs-count (bookOf s))))
-
   pub view-short : (b : ℕ) → minutesOf (instance (bookOf s)) b ≤ 1440
   view-short zero = omega arith
   view-short (suc b) =
       byTest (ltb b (n (instance (bookOf s))))
-      (λ t. let g = good-minutes _ (good-job b (ltb-true b _ t) .minutes) in
+      (λ t. let g = good-minutes _ (good-index s v b (omega (arith, view-size s, ltb-true b _ t)) .minutes) in
       omega (arith, ap (λ (j : Job). j .minutes) (job-of (bookOf s) b)))
       (λ t. let e = List·getD-eq-default (instance (bookOf s) .jobs) noJob {n = b} (omega (arith, ltb-false b (n (instance (bookOf s))) t)) in
       omega (arith, ap (λ (j : Job). j .minutes) e))
@@ -127,7 +119,7 @@ module _ (s : Sheet) (v : Sound s) where
   list-short : (b : ℕ) → 0 < b → b ≤ n (instance (bookOf s)) → length (listOf (instance (bookOf s)) b) ≤ 24
   list-short zero p q = absurd (omega arith)
   list-short (suc b) p q =
-      let g = good-long (bookOf s .m) _ (good-job b q .list) in
+      let g = good-long (bookOf s .m) _ (good-index s v b (omega (arith, view-size s)) .list) in
       omega (arith, g .1, view-instruments .1, ap (λ (j : Job). length (j .list)) (job-of (bookOf s) b))
 
   pub view-lists : sumTo (n (instance (bookOf s))) (λ b. length (listOf (instance (bookOf s)) b)) ≤ 4800

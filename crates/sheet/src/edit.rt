@@ -1,11 +1,11 @@
 // The edits: each takes a sheet and gives it back, changed or, on a refusal, as it was.
 ghost use Prim.Native.Nat.{ℕ, _+_, _*_, _<_, _≤_};
 ghost use mathlib.Core.Path.{_≡_};
-ghost use lib.ListN.{length, getD, take, drop};
+ghost use lib.ListN.{length, getD, drop};
 ghost use lib.Dec.{leb};
 ghost use Rattle.rules.specs.Fold.{_and_, mem, every};
 ghost use Rattle.rules.specs.Sheet.{isInstrument, distinct, goodList};
-ghost use Rattle.rules.specs.Edit.{kept, add as adding, withdraw as withdrawing, requalify as requalifying, move as moving};
+ghost use Rattle.rules.specs.Edit.{add as adding, withdraw as withdrawing, requalify as requalifying, move as moving};
 ghost use Rattle.sheet.specs.Represent.{Sound, padded};
 ghost use Rattle.sheet.specs.Answers.{EditAnswered};
 ghost use Rattle.sheet.specs.Change.{cut, removed, requalified};
@@ -13,6 +13,8 @@ use crate::Edited;
 use crate::Refusal;
 use crate::Sheet;
 use crate::enter_part;
+use crate::kept_in;
+use crate::listed;
 
 impl Sheet {
     // A batch more, at the end, on the first listed.
@@ -91,7 +93,7 @@ impl Sheet {
         }
         let row = row_of(list);
         let at = b - 1;
-        let place = kept_place(self.places[at], list);
+        let place = kept_in(&row, 0, list.len(), self.places[at]);
         let sheet = self.requalified(at, place, list.len() as u8, row);
         Edited {
             refusal: Refusal::Nothing,
@@ -240,22 +242,6 @@ fn named_from(list: &[u32], from: usize, x: u32) -> bool
     false
 }
 
-// The count entries from from on name x.
-fn listed(lists: &[u8], from: usize, count: usize, x: u32) -> bool
-    requires { ⌜ from + count ≤ length (now lists) ⌝ }
-    ensures { λ r. ⌜ r ≡ mem x (take count (drop from (now (lists .entry)))) ⌝ }
-{
-    let end = from + count;
-    let mut i = from;
-    while i < end {
-        if lists[i] as u32 == x {
-            return true;
-        }
-        i += 1;
-    }
-    false
-}
-
 // A list as a row of a sheet.
 fn row_of(list: &[u32]) -> [u8; 24]
     requires { ⌜ length (now list) ≤ 24 ⌝ ∗ ⌜ ((i : ℕ) → i < length (now list) → getD (now list) i 0 < 256) ⌝ }
@@ -268,17 +254,6 @@ fn row_of(list: &[u32]) -> [u8; 24]
         i += 1;
     }
     row
-}
-
-// The place where it is listed, and the first listed otherwise.
-fn kept_place(place: u8, list: &[u32]) -> u8
-    requires { ⌜ 0 < length (now list) ⌝ ∗ ⌜ getD (now list) 0 0 < 256 ⌝ }
-    ensures { λ r. ⌜ r ≡ kept place (now (list .entry)) ⌝ }
-{
-    if named_from(list, 0, place as u32) {
-        return place;
-    }
-    list[0] as u8
 }
 
 // The entries from at + by on move down by by; the last ones are 0.

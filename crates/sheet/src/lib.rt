@@ -1,8 +1,10 @@
 // The sheet: m instruments and up to 200 batches, read from a file and edited. A sheet goes in by value and comes back.
 ghost use mathlib.Core.Path.{_≡_};
 ghost use Prim.Native.Nat.{_+_, _*_, _<_, _≤_};
-ghost use lib.ListN.{length};
+ghost use lib.ListN.{length, take, drop};
 ghost use lib.Seq.{paste};
+ghost use Rattle.rules.specs.Fold.{mem};
+ghost use Rattle.rules.specs.Edit.{kept};
 ghost use Rattle.sheet.specs.Represent.{appended, blank};
 
 mod columns;
@@ -95,4 +97,31 @@ fn enter_part(a: &mut [u8], at: usize, part: &[u8], count: usize)
         a[at + j] = part[j];
         j += 1;
     }
+}
+
+// The count entries from from on name x.
+fn listed(lists: &[u8], from: usize, count: usize, x: u32) -> bool
+    requires { ⌜ from + count ≤ length (now lists) ⌝ }
+    ensures { λ r. ⌜ r ≡ mem x (take count (drop from (now (lists .entry)))) ⌝ }
+{
+    let end = from + count;
+    let mut i = from;
+    while i < end {
+        if lists[i] as u32 == x {
+            return true;
+        }
+        i += 1;
+    }
+    false
+}
+
+// The place where the count entries from from on name it, and the first of them otherwise.
+fn kept_in(lists: &[u8], from: usize, count: usize, place: u8) -> u8
+    requires { ⌜ (0 < count) × (from + count ≤ length (now lists)) ⌝ }
+    ensures { λ r. ⌜ r ≡ kept place (take count (drop from (now (lists .entry)))) ⌝ }
+{
+    if listed(lists, from, count, place as u32) {
+        return place;
+    }
+    lists[from]
 }

@@ -6,11 +6,10 @@ ghost use lib.ListN.{length, getD, take, drop, replicate};
 ghost use lib.Seq.{paste};
 ghost use Rattle.rules.specs.Instance.{Job, instance, n, places};
 ghost use Rattle.rules.specs.Run.{withPlaces};
-ghost use Rattle.theory.proofs.Valid.{Permitted};
 ghost use Rattle.sheet.specs.Represent.{Sound, padded, bookOf, sheetOf};
-ghost use Rattle.sheet.specs.View.{marksOf, marks};
+ghost use Rattle.sheet.specs.View.{marksOf, marks, keptPlaces};
 use crate::Sheet;
-use crate::enter_part;
+use crate::kept_in;
 
 impl Sheet {
     // How many instruments.
@@ -60,14 +59,21 @@ impl Sheet {
         marks
     }
 
-    // The batches on the places of x, which are permitted; what x has past the last batch is not taken.
+    // Each batch on its place in x where its list has that, and on the first listed otherwise.
     pub fn with_places(mut self, x: [u8; 200]) -> Sheet
-        requires { ⌜ Sound self × Permitted (instance (bookOf self)) (take (n (instance (bookOf self))) x) ⌝ }
-        ensures { λ r. ⌜ r ≡ sheetOf (withPlaces (bookOf self) (take (n (instance (bookOf self))) x)) ⌝ }
+        requires { ⌜ Sound self ⌝ }
+        ensures { λ r. ⌜ (r ≡ sheetOf (withPlaces (bookOf self) (keptPlaces (instance (bookOf self)) x))) × Sound r ⌝ }
     {
         let n = self.n;
+        let counts = self.counts;
+        let lists = self.lists;
         let mut places = self.places;
-        enter_part(&mut places, 0, &x, n);
+        let mut b = 0;
+        while b < n {
+            let p = x[b];
+            places[b] = kept_in(&lists, b * Sheet::INSTRUMENTS, counts[b] as usize, p);
+            b += 1;
+        }
         self.places = places;
         self
     }

@@ -1,8 +1,11 @@
 -- The plan over the sheet's arrays is the rules'.
-use mathlib.Core.Path.{refl, _∙_}
+use mathlib.Core.Path.{refl, ap, _∙_}
 use native.Mathlib.Omega.{arith}
 use borrow.Author.Needs.{needs}
-use Rattle.sheet.specs.Represent.{bookOf}
+use Rattle.rules.specs.Instance.{Assignment, instance}
+use Rattle.rules.specs.Run.{withPlaces}
+use Rattle.sheet.specs.Represent.{sheetOf, bookOf}
+use Rattle.sheet.proofs.Placed.{kept-taken}
 use Rattle.planner.proofs.Answered.{plan-answered}
 use Rattle.planner.proofs.Drawing.{drawn-permitted, plan-shown}
 use Rattle.planner.proofs.calls.plan.Statement.{statement}
@@ -24,17 +27,20 @@ draw-requires c κs =
     ((_, k), (omega (arith, u, c .before .before .before .before .before .before .lay .ensures .wide .0), omega (arith, u, c .before .before .before .before .before .before .lay .ensures .wide .1)))
 
 with-places-requires : tie.Need-with-places-requires
-with-places-requires c κs =
-    let a = c .before .before .before .before .before .before .before .before .before in
-    let k = a .lay .ensures .stands in
-    (a .before .pre, drawn-permitted k (c .before .before .draw .ensures _ k))
+with-places-requires c κs = c .before .before .before .before .before .before .before .before .before .before .pre
 
 returns : tie.Need-returns
 returns c =
-    let l = c .before .before .before .before .before .before .before .before .before .before .lay .ensures in
+    let a = c .before .before .before .before .before .before .before .before .before .before in
+    let k = bookOf (a .before .args .sheet) in
+    let l = a .lay .ensures in
+    let d = c .before .before .before .draw in
+    let e = d .ensures _ (l .stands) in
     plan-answered
-    (plan-shown (bookOf (c .before .before .before .before .before .before .before .before .before .before .before .args .sheet)) (c .before .before .before .draw .result) _ (l .shown) (c .before .before .before .draw .ensures _ (l .stands))
-    (c .with-places .ensures ∙ (rw (l .stands .reads .jobs) refl)))
+    (plan-shown k (d .result) _ (l .shown) e
+    (c .with-places .ensures .0
+    ∙ ap (λ (x : Assignment). sheetOf (withPlaces k x)) (kept-taken (instance k) _ (drawn-permitted (l .stands) e))
+    ∙ (rw (l .stands .reads .jobs) refl)))
 
 pub plan-spec : {M : Type 1} → statement M
 plan-spec =

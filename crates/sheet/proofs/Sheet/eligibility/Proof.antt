@@ -4,7 +4,7 @@ use mathlib.Core.Path.{_≡_}
 use native.Mathlib.Omega.{arith}
 use lib.ListN.{length}
 use borrow.Author.Needs.{needs}
-use Rattle.sheet.proofs.SoundArrays.{few-batches, short-list}
+use Rattle.sheet.proofs.SoundArrays.{few-batches, list-size}
 use Rattle.sheet.proofs.Marks.{Rows, rows-start, rows-next, rows-step, rows-end, entry-range}
 use Rattle.sheet.proofs.Sheet.eligibility.Statement.{statement}
 use Rattle.sheet.proofs.Sheet.eligibility.Tie as tie
@@ -40,7 +40,7 @@ mark-row-requires c κs =
     let e = c .before .before .before .loop .inv in
     let h = c .before .before .loop-test .taken in
     let l : length (a .self .lists) ≡ 4800 = search needs in
-    let w = short-list (a .self) v (c .before .before .before .loop .i) h in (
+    let w = list-size (a .self) v (c .before .before .before .loop .i) h .1 in (
       omega (arith, e .long),
       (
         rows-next e h,

@@ -5,7 +5,7 @@ use borrow.Author.Needs.{needs}
 use lib.ListN.{length}
 use Rattle.sheet.proofs.Answered.{edit-answered}
 use Rattle.sheet.proofs.Scan.{failed, passed}
-use Rattle.sheet.proofs.SoundArrays.{index, short-list, small-place}
+use Rattle.sheet.proofs.SoundArrays.{index, list-size, small-place}
 use Rattle.sheet.proofs.Edits.{move-none, move-strange, move-done}
 use Rattle.sheet.proofs.Sheet.move_to.Statement.{statement}
 use Rattle.sheet.proofs.Sheet.move_to.Tie as tie
@@ -45,7 +45,7 @@ listed-requires c κs =
     let n = passed (c .before .before .before .before .within .ensures) (c .before .before .before .if1 .left) in
     let h : length (s .args .t1 .lists) ≡ 4800 = search needs in
     let i = index (s .args .t1) (s .pre) (s .args .batch) n in
-    omega (arith, short-list (s .args .t1) (s .pre) _ (i .1), i .2)
+    omega (arith, list-size (s .args .t1) (s .pre) _ (i .1) .1, i .2)
 
 returns-2 : tie.Need-returns-2
 returns-2 c =

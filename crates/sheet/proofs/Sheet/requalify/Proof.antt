@@ -1,6 +1,8 @@
 -- `Sheet::requalify` meets its contract.
 use native.Mathlib.Omega.{arith}
+use mathlib.Core.Path.{_≡_}
 use borrow.Author.Needs.{needs}
+use lib.ListN.{length}
 use Rattle.sheet.proofs.Answered.{edit-answered}
 use Rattle.sheet.proofs.Scan.{failed, passed}
 use Rattle.sheet.proofs.SoundArrays.{index, good-long, row-fits}
@@ -39,42 +41,45 @@ sub-at c =
     let n = passed (c .before .before .before .before .within .ensures) (c .before .before .before .if1 .left) in
     index (s .args .t1) (s .pre) (s .args .batch) n .0
 
-element-copy-out-kept-place : tie.Need-element-copy-out-kept-place
-element-copy-out-kept-place c =
-    let s = c .before .before .before .before .before .before in
-    let n = passed (c .before .before .before .before .within .ensures) (c .before .before .before .if1 .left) in
+slice-aggregate-kept-in : tie.Need-slice-aggregate-kept-in
+slice-aggregate-kept-in c = search needs
+
+element-copy-out-kept-in : tie.Need-element-copy-out-kept-in
+element-copy-out-kept-in c =
+    let s = c .before .before .before .before .before .before .before in
+    let n = passed (c .before .before .before .before .before .within .ensures) (c .before .before .before .before .if1 .left) in
     index (s .args .t1) (s .pre) (s .args .batch) n .2
 
-kept-place-requires : tie.Need-kept-place-requires
-kept-place-requires c κs =
-    let s = c .before .before .before .before .before .before .before in
-    let g = passed (c .before .before .before .good-list .ensures) (c .before .before .if2 .left) in
-    let l = good-long (s .args .t1 .m) (s .args .list .now) g .0 in
-    (l, row-fits (s .args .t1) (s .pre) (s .args .list .now) g .1 0 l)
+kept-in-requires : tie.Need-kept-in-requires
+kept-in-requires c κs =
+    let s = c .before .before .before .before .before .before .before .before in
+    let g = passed (c .before .before .before .before .good-list .ensures) (c .before .before .before .if2 .left) in
+    let r : length (c .before .before .row-of .result) ≡ 24 = search needs in
+    (good-long (s .args .t1 .m) (s .args .list .now) g .0, omega (arith, row-fits (s .args .t1) (s .pre) (s .args .list .now) g .0))
 
 cast-requalified : tie.Need-cast-requalified
 cast-requalified c =
-    let s = c .before .before .before .before .before .before .before .before in
-    let g = passed (c .before .before .before .before .good-list .ensures) (c .before .before .before .if2 .left) in
+    let s = c .before .before .before .before .before .before .before .before .before in
+    let g = passed (c .before .before .before .before .before .good-list .ensures) (c .before .before .before .before .if2 .left) in
     omega (arith, row-fits (s .args .t1) (s .pre) (s .args .list .now) g .0)
 
 requalified-requires : tie.Need-requalified-requires
 requalified-requires c κs =
-    let s = c .before .before .before .before .before .before .before .before in
-    let n = passed (c .before .before .before .before .before .before .within .ensures)
-    (c .before .before .before .before .before .if1 .left) in
+    let s = c .before .before .before .before .before .before .before .before .before in
+    let n = passed (c .before .before .before .before .before .before .before .within .ensures)
+    (c .before .before .before .before .before .before .if1 .left) in
     index (s .args .t1) (s .pre) (s .args .batch) n .2
 
 returns-3 : tie.Need-returns-3
 returns-3 c =
-    let s = c .before .before .before .before .before .before .before .before .before in
-    let n = passed (c .before .before .before .before .before .before .before .within .ensures)
-    (c .before .before .before .before .before .before .if1 .left) in
-    let g = passed (c .before .before .before .before .before .good-list .ensures)
-    (c .before .before .before .before .if2 .left) in
-    edit-answered (requalify-done (s .args .t1) (s .pre) (s .args .batch) (s .args .list .now) (c .before .kept-place .result)
-    (c .before .before .before .row-of .result) (c .requalified .result) n g
-    (c .before .kept-place .ensures) (c .before .before .before .row-of .ensures) (c .requalified .ensures))
+    let s = c .before .before .before .before .before .before .before .before .before .before in
+    let n = passed (c .before .before .before .before .before .before .before .before .within .ensures)
+    (c .before .before .before .before .before .before .before .if1 .left) in
+    let g = passed (c .before .before .before .before .before .before .good-list .ensures)
+    (c .before .before .before .before .before .if2 .left) in
+    let row = c .before .before .before .before .row-of in
+    edit-answered (requalify-done (s .args .t1) (s .pre) (s .args .batch) (s .args .list .now) (c .before .kept-in .result)
+    (row .result) (c .requalified .result) n g (c .before .kept-in .ensures) (row .ensures) (c .requalified .ensures))
 
 pub requalify-spec : {M : Type 1} → statement M
 requalify-spec =
@@ -86,8 +91,9 @@ requalify-spec =
     returns-2
     row-of-requires
     sub-at
-    element-copy-out-kept-place
-    kept-place-requires
+    slice-aggregate-kept-in
+    element-copy-out-kept-in
+    kept-in-requires
     cast-requalified
     requalified-requires
     returns-3)

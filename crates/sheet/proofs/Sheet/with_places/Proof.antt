@@ -1,36 +1,91 @@
--- `Sheet::with_places` meets its contract.
-use mathlib.Core.Path.{_≡_, ap, _∙_}
+-- `Sheet::with_places` meets its contract: after b turns the first b batches have their places.
+use Prim.Native.Nat.{_-_, _≤_}
+use mathlib.Core.Path.{_≡_}
 use native.Mathlib.Omega.{arith}
 use lib.ListN.{length}
-use Rattle.sheet.proofs.SoundArrays.{few-batches}
-use Rattle.sheet.proofs.Placed.{placing, with-places-law}
+use Rattle.rules.specs.Instance.{instance}
+use Rattle.sheet.specs.Represent.{bookOf}
+use Rattle.sheet.specs.View.{keptPlaces}
+use Rattle.sheet.proofs.SoundArrays.{few-batches, list-size}
+use Rattle.sheet.proofs.Enter.{Entered, entered-start}
+use Rattle.sheet.proofs.Placed.{kept-step, kept-end, kept-permitted}
+use Rattle.sheet.proofs.SoundViews.{view-permitted, view-placed}
 use borrow.Author.Needs.{needs}
 use Rattle.sheet.proofs.Sheet.with_places.Statement.{statement}
 use Rattle.sheet.proofs.Sheet.with_places.Tie as tie
 
-slice-aggregate-enter-part : tie.Need-slice-aggregate-enter-part
-slice-aggregate-enter-part c = search needs
+abbrev Inv-loop : tie.InvT-loop
+Inv-loop self x n counts lists places₀ b₀ places b =
+    (n ≤ 200) × Entered places₀ 0 (keptPlaces (instance (bookOf self)) x) n places b
 
-slice-aggregate-enter-part-2 : tie.Need-slice-aggregate-enter-part-2
-slice-aggregate-enter-part-2 c = search needs
+abbrev μ-loop : tie.MeasureT-loop
+μ-loop self x n counts lists places₀ b₀ places b = n - b
 
-enter-part-requires : tie.Need-enter-part-requires
-enter-part-requires c κs =
-    let a = c .before .before .before .args in
-    let p : length (a .self .places) ≡ 200 = search needs in
-    let q : length (a .t2) ≡ 200 = search needs in
-    let h = few-batches (a .self) (c .before .before .before .pre .0) in
-    (omega arith, omega arith)
+loop-holds : tie.Need-loop-holds Inv-loop μ-loop
+loop-holds c = (few-batches (c .before .before .before .args .self) (c .before .before .before .pre), entered-start)
 
-returns : tie.Need-returns
+array-read-p : tie.Need-array-read-p Inv-loop μ-loop
+array-read-p c = search needs
+
+slice-aggregate-kept-in : tie.Need-slice-aggregate-kept-in Inv-loop μ-loop
+slice-aggregate-kept-in c = search needs
+
+mul-kept-in : tie.Need-mul-kept-in Inv-loop μ-loop
+mul-kept-in c = search needs
+
+array-read-kept-in : tie.Need-array-read-kept-in Inv-loop μ-loop
+array-read-kept-in c = search needs
+
+cast-kept-in : tie.Need-cast-kept-in Inv-loop μ-loop
+cast-kept-in c = search needs
+
+kept-in-requires : tie.Need-kept-in-requires Inv-loop μ-loop
+kept-in-requires c κs =
+    let s = c .before .before .before .before .before .before in
+    let l : length (s .args .self .lists) ≡ 4800 = search needs in
+    let w = list-size (s .args .self) (s .pre) (c .before .before .loop .b) (c .before .loop-test .taken) in
+    (w .0, omega (arith, w .1, c .before .before .loop .inv .0, c .before .loop-test .taken))
+
+array-write-places : tie.Need-array-write-places Inv-loop μ-loop
+array-write-places c = search needs
+
+add-b : tie.Need-add-b Inv-loop μ-loop
+add-b c = search needs
+
+loop-less : tie.Need-loop-less Inv-loop μ-loop
+loop-less c = search needs
+
+loop-again : tie.Need-loop-again Inv-loop μ-loop
+loop-again c =
+    let s = c .before .before .before .before .before .before .before in
+    let l : length (s .args .self .places) ≡ 200 = search needs in
+    let i = c .before .before .before .loop .inv in (
+      i .0,
+      kept-step (s .args .self) (s .args .t2) (c .kept-in .result) (i .1) (omega (arith, i .0)) (c .before .before .loop-test .taken)
+          (c .kept-in .ensures),
+    )
+
+returns : tie.Need-returns Inv-loop μ-loop
 returns c =
-    let a = c .before .before .before .before .before .args in
-    let v = c .before .before .before .before .before .pre .0 in
-    let q : length (a .t2) ≡ 200 = search needs in
-    let h = few-batches (a .self) v in
-    ap (placing (a .self)) (c .before .enter-part .ensures) ∙ with-places-law (a .self) (a .t2) v (omega arith)
+    let s = c .before .before .before .before .before in
+    let q = kept-end (s .args .self) (s .args .t2) (s .pre) (c .before .loop .inv .1) (c .loop-test .left) in
+    (q, rw q (view-placed (s .args .self) (s .pre) _ (kept-permitted _ (s .args .t2) _ (view-permitted (s .args .self) (s .pre)))))
 
 pub with-places-spec : {M : Type 1} → statement M
 with-places-spec =
     tie.close
-    (tie.spec slice-aggregate-enter-part slice-aggregate-enter-part-2 enter-part-requires returns)
+    (tie.spec
+    Inv-loop
+    μ-loop
+    loop-holds
+    array-read-p
+    slice-aggregate-kept-in
+    mul-kept-in
+    array-read-kept-in
+    cast-kept-in
+    kept-in-requires
+    array-write-places
+    add-b
+    loop-less
+    loop-again
+    returns)

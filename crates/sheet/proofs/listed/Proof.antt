@@ -3,8 +3,8 @@ use borrow.Author.Needs.{needs}
 use native.Mathlib.Omega.{arith}
 use Prim.Native.Nat.{_-_}
 use Rattle.sheet.proofs.Scan.{Part, part-start, part-hit, part-miss, part-end}
-use Rattle.sheet.proofs.edit.listed.Statement.{statement}
-use Rattle.sheet.proofs.edit.listed.Tie as tie
+use Rattle.sheet.proofs.listed.Statement.{statement}
+use Rattle.sheet.proofs.listed.Tie as tie
 
 abbrev Inv-loop : tie.InvT-loop
 Inv-loop lists from count x end i₀ i = Part x lists from count i
