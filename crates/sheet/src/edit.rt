@@ -1,5 +1,5 @@
 // The edits: each takes a sheet and gives it back, changed or, on a refusal, as it was.
-ghost use Prim.Native.Nat.{ℕ, _+_, _*_, _<_, _≤_};
+ghost use Prim.Native.Nat.{ℕ, _+_, _<_, _≤_};
 ghost use mathlib.Core.Path.{_≡_};
 ghost use lib.ListN.{length, getD, drop};
 ghost use lib.Dec.{leb};

@@ -1,6 +1,6 @@
 // The sheet: m instruments and up to 200 batches, read from a file and edited. A sheet goes in by value and comes back.
 ghost use mathlib.Core.Path.{_≡_};
-ghost use Prim.Native.Nat.{_+_, _*_, _<_, _≤_};
+ghost use Prim.Native.Nat.{_+_, _<_, _≤_};
 ghost use lib.ListN.{length, take, drop};
 ghost use lib.Seq.{paste};
 ghost use Rattle.rules.specs.Fold.{mem};
