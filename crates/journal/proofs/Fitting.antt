@@ -31,7 +31,7 @@ use Rattle.theory.proofs.Planning.{plan-showing}
 use Rattle.theory.proofs.Field.{columns-length}
 use Rattle.sheet.specs.declared.Sheet.{Sheet}
 use Rattle.sheet.specs.Represent.{Sound, bookOf}
-use Rattle.sheet.proofs.Marking.{length-listTo}
+use Rattle.theory.proofs.Entries.{length-listTo}
 use Rattle.sheet.proofs.SoundViews.{view-instruments, view-batches, view-valid, view-permitted, view-small}
 use Rattle.listing.proofs.Fields.{fields-length, line-length}
 use Rattle.listing.proofs.Figures.{plan-fits, group-few}

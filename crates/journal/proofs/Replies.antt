@@ -22,7 +22,7 @@ use Rattle.sheet.specs.declared.Sheet.{Sheet}
 use Rattle.sheet.specs.declared.Edited.{Edited}
 use Rattle.sheet.specs.Represent.{Sound, sheetOf, bookOf}
 use Rattle.sheet.specs.Answers.{numberOf, editOf}
-use Rattle.sheet.proofs.Marking.{length-listTo}
+use Rattle.theory.proofs.Entries.{length-listTo}
 use Rattle.sheet.proofs.Padded.{length-padded}
 use Rattle.sheet.proofs.SoundViews.{view-instruments, view-batches, view-valid, view-permitted}
 use Rattle.planner.specs.declared.Tried.{Tried}

@@ -17,7 +17,7 @@ use Rattle.theory.proofs.Sound.{jobs-count, placed-places}
 use Rattle.theory.proofs.Planning.{plan-permitted}
 use Rattle.sheet.specs.declared.Sheet.{Sheet}
 use Rattle.sheet.specs.Represent.{padded, sheetOf, bookOf, Sound}
-use Rattle.sheet.proofs.Padded.{getD-zeros}
+use Rattle.theory.proofs.Entries.{getD-zeros}
 use Rattle.sheet.proofs.SoundViews.{minutes-at, view-batches, view-valid, view-permitted, view-placed, view-placed-book}
 use Rattle.planner.specs.declared.Planned.{Planned}
 use Rattle.planner.specs.Calls.{planOf}

@@ -16,7 +16,7 @@ use Rattle.rules.specs.Run as R
 use Rattle.theory.proofs.Sound.{jobs-count, sound-valid, sound-permitted}
 use Rattle.theory.proofs.Trial.{Outcome, passes, fails, outcome, trial-permitted}
 use Rattle.sheet.specs.Represent.{padded}
-use Rattle.sheet.proofs.Marking.{length-listTo}
+use Rattle.theory.proofs.Entries.{length-listTo}
 use Rattle.planner.specs.declared.Tried.{Tried}
 use Rattle.planner.specs.declared.Planned.{Planned}
 use Rattle.planner.specs.declared.Reviewed.{Reviewed}

@@ -1,26 +1,17 @@
 -- Review over arrays: loads that were added up are the rules', and so are their list and the greatest of them.
-use Prim.Native.Nat.{ℕ, zero, suc, _≤_, _<_}
-use mathlib.Core.Path.{_≡_, refl, sym, ap, _∙_}
+use Prim.Native.Nat.{ℕ, _≤_, _<_}
+use mathlib.Core.Path.{_≡_, sym, ap, _∙_}
 use mathlib.Core.List.{List}
-use native.Mathlib.Nat.{le-refl}
-use native.Mathlib.Omega.{arith}
-use lib.ListN.{length, take}
-use lib.Seq.{take-suc}
+use lib.ListN.{take}
 use lib.Dec.{eqb}
 use Rattle.rules.specs.Fold.{pick, at, sumTo, maxTo, firstTo, listTo}
 use Rattle.rules.specs.Instance.{Instance, minutesOf}
 use Rattle.rules.specs.Load.{load, makespan, improves, review}
 use Rattle.theory.proofs.Fold.{sumTo-ext, maxTo-ext}
+use Rattle.theory.proofs.Entries.{take-list}
 use Rattle.arrays.specs.Reads.{Reads}
 use Rattle.planner.specs.Settling.{Placing, ReviewIs}
 use Rattle.arrays.proofs.Take.{at-take}
-
--- a list's front part, by its entries
-pub take-list : (k : ℕ) (l : List ℕ) (f : ℕ → ℕ) → k ≤ length l → ((i : ℕ) → 0 < i → i ≤ k → at l i ≡ f i) → take k l ≡ listTo k f
-unfolding listTo
-take-list zero l f u h = refl
-take-list (suc k) l f u h =
-    rw (take-suc l k 0, take-list k l f (omega arith) (λ i l u. h i l (omega arith)), h (suc k) (omega arith) (le-refl (suc k)))
 
 module _ {I : Instance} {m c : ℕ} {lengths sets : List ℕ} (r : Reads I m c lengths sets) where
   -- loads that were added up over the places

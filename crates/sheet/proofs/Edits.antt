@@ -1,5 +1,5 @@
 -- What each edit gives on a sound sheet, in its arrays; and that the sheet stays sound.
-use Prim.Native.Nat.{ℕ, _+_, _-_, _≤_, _<_}
+use Prim.Native.Nat.{ℕ, _-_, _≤_, _<_}
 use mathlib.Core.Path.{_≡_, refl, sym, ap, _∙_}
 use mathlib.Core.Bool.{Bool, true, false}
 use mathlib.Core.List.{List, [], _∷_, _++_}
@@ -20,7 +20,7 @@ use Rattle.sheet.specs.declared.Refusal.the-variants.{Nothing, BadLength
 use Rattle.sheet.specs.Represent.{padded, sheetOf, batchAt, bookOf, Sound, appended}
 use Rattle.sheet.specs.Answers.{editedAs, editOf}
 use Rattle.sheet.specs.Change.{removed, moved, requalified}
-use Rattle.sheet.proofs.Padded.{getD-zeros}
+use Rattle.theory.proofs.Entries.{getD-zeros}
 use Rattle.sheet.proofs.Represent.{sheet-sound, append-law}
 use Rattle.sheet.proofs.Change.{onto, listing, remove-law, move-law, requalify-law}
 use Rattle.sheet.proofs.SoundArrays.{book-m, book-size, book-at, number-at, is-number, in-range, few-instruments, few-batches, narrow-book, good-long}

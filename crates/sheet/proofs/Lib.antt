@@ -1,6 +1,5 @@
 pub mod Padded
 pub mod Represent
-pub mod Enter
 pub mod Scan
 pub mod Shift
 pub mod Change

@@ -1,35 +1,19 @@
 -- A row of marks made from a list, one store for each instrument that it names.
-use Prim.Native.Nat.{ℕ, zero, suc, _+_, _-_, _≤_, _<_}
+use Prim.Native.Nat.{ℕ, suc, _+_, _-_, _≤_, _<_}
 use mathlib.Core.Path.{_≡_, refl, sym, ap, _∙_}
 use mathlib.Core.Bool.{Bool, true, false}
 use mathlib.Core.List.{List, [], _∷_, _++_}
 use native.Mathlib.Omega.{arith}
 use native.Mathlib.Numerals.{add-one}
-use lib.ListN.{length, getD, set, take, drop, replicate, length-append, length-drop, length-set, List·getD-append}
-use lib.Seq.{paste, take-suc, getD-at, getD-drop, getD-set-same, getD-set-other, set-append-left, take-set-lt, length-take-le, ext-getD}
-use lib.Dec.{eqb, ltb}
-use borrow.Author.Tests.{ltb-true, ltb-false, eqb-true, eqb-false}
+use lib.ListN.{length, getD, set, take, drop, replicate, length-append, length-drop, length-set}
+use lib.Seq.{paste, take-suc, getD-drop, getD-set-same, getD-set-other, set-append-left, take-set-lt, length-take-le, ext-getD}
+use lib.Dec.{eqb}
+use borrow.Author.Tests.{eqb-true, eqb-false}
 use Rattle.rules.specs.Fold.{pick, _or_, mem, listTo}
 use Rattle.theory.proofs.Logic.{byTest, conflict, or-right, or-false}
 use Rattle.theory.proofs.Member.{mem-append, mem-one, mem-head}
+use Rattle.theory.proofs.Entries.{length-listTo, getD-listTo}
 use Rattle.sheet.specs.View.{marksOf}
-
--- ---- f 1 to f n as a list
-
-pub length-listTo : (n : ℕ) (f : ℕ → ℕ) → length (listTo n f) ≡ n
-unfolding listTo
-length-listTo zero f = refl
-length-listTo (suc n) f = omega (arith, length-append (listTo n f) (f (suc n) ∷ []), length-listTo n f)
-
-pub getD-listTo : (n : ℕ) (f : ℕ → ℕ) (k : ℕ) → k < n → getD (listTo n f) k 0 ≡ f (suc k)
-unfolding listTo
-getD-listTo zero f k h = absurd (omega arith)
-getD-listTo (suc n) f k h =
-    byTest (ltb k n)
-    (λ t. let g : k < n = ltb-true k n t in
-    List·getD-append (listTo n f) (f (suc n) ∷ []) 0 k (omega (arith, length-listTo n f)) ∙ getD-listTo n f k g)
-    (λ t. let g : k ≡ n = omega (arith, ltb-false k n t) in
-    rw g (getD-at (listTo n f) (f (suc n)) [] 0 n (length-listTo n f)))
 
 -- ---- a list's marks
 

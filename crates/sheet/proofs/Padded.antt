@@ -1,24 +1,14 @@
 -- Laws of a list in w entries, 0 past its end: an entry read, a store, a row pasted, a part taken out.
-use Prim.Native.Nat.{ℕ, zero, suc, _+_, _-_, _≤_, _<_}
-use mathlib.Core.Path.{_≡_, refl, sym, ap, _∙_}
+use Prim.Native.Nat.{ℕ, _+_, _-_, _≤_, _<_}
+use mathlib.Core.Path.{_≡_, sym, ap, _∙_}
 use mathlib.Core.List.{List, [], _∷_, _++_, append-assoc}
 use native.Mathlib.Omega.{arith}
-use lib.ListN.{length, getD, set, drop, replicate, length-append, length-replicate, replicate-append-replicate}
+use lib.ListN.{length, set, drop, replicate, length-append, length-replicate, replicate-append-replicate}
 use lib.Seq.{take-all, take-at, drop-at, set-at, paste}
 use Rattle.sheet.specs.Represent.{padded}
 use Rattle.sheet.specs.Change.{cut}
 
 -- ---- reading
-
-pub zeros : (k n : ℕ) → _≡_ {A = ℕ} (getD (replicate k 0) n 0) 0
-zeros zero n = refl
-zeros (suc k) zero = refl
-zeros (suc k) (suc n) = zeros k n
-
-pub getD-zeros : (l : List ℕ) (k n : ℕ) → getD (l ++ replicate k 0) n 0 ≡ getD l n 0
-getD-zeros [] k n = zeros k n
-getD-zeros (x ∷ l) k zero = refl
-getD-zeros (x ∷ l) k (suc n) = getD-zeros l k n
 
 pub length-padded : (w : ℕ) (l : List ℕ) → length l ≤ w → length (padded w l) ≡ w
 length-padded w l h = simp (length-append, length-replicate) (omega arith)

@@ -20,8 +20,8 @@ use Rattle.sheet.specs.Represent.{padded, rows, sheetOf, batchAt, bookOf
 use Rattle.sheet.specs.View.{keptPlaces}
 use Rattle.sheet.proofs.Padded.{paste-at}
 use Rattle.sheet.proofs.SoundArrays.{book-size, job-list}
-use Rattle.sheet.proofs.Enter.{Entered, entered-step, entered-end}
-use Rattle.sheet.proofs.Marking.{length-listTo, getD-listTo}
+use Rattle.theory.proofs.Enter.{Entered, entered-step, entered-end}
+use Rattle.theory.proofs.Entries.{length-listTo, getD-listTo}
 use Rattle.sheet.proofs.SoundViews.{view-size}
 
 -- ---- what the places do not touch

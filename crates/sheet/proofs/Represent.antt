@@ -14,7 +14,8 @@ use Rattle.theory.proofs.Logic.{and-left, and-right, and-mk}
 use Rattle.theory.proofs.Sound.{sound-is, good-is}
 use Rattle.sheet.specs.declared.Sheet.{Sheet}
 use Rattle.sheet.specs.Represent.{padded, rows, sheetOf, batchAt, batchesTo, bookOf, Sound, appended}
-use Rattle.sheet.proofs.Padded.{getD-zeros, length-padded, set-append, paste-append}
+use Rattle.theory.proofs.Entries.{getD-zeros}
+use Rattle.sheet.proofs.Padded.{length-padded, set-append, paste-append}
 
 -- ---- rows of 24
 

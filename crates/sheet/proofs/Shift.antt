@@ -9,7 +9,7 @@ use lib.Dec.{ltb}
 use borrow.Author.Tests.{ltb-true, ltb-false}
 use Rattle.theory.proofs.Logic.{byTest}
 use Rattle.sheet.specs.Change.{cut}
-use Rattle.sheet.proofs.Padded.{getD-zeros}
+use Rattle.theory.proofs.Entries.{getD-zeros}
 
 -- ---- the list that comes out, entry by entry
 

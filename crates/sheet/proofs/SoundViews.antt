@@ -20,7 +20,7 @@ use Rattle.theory.proofs.Sound.{sound-is, jobs-count, sound-valid, sound-permit
 use Rattle.sheet.specs.declared.Sheet.{Sheet}
 use Rattle.sheet.specs.Represent.{padded, sheetOf, bookOf, Sound}
 use Rattle.sheet.specs.View.{marksOf, markRows, marks}
-use Rattle.sheet.proofs.Padded.{getD-zeros}
+use Rattle.theory.proofs.Entries.{getD-zeros}
 use Rattle.sheet.proofs.Represent.{book-sheet, sheet-sound}
 use Rattle.sheet.proofs.SoundArrays.{book-size, good-long, good-index}
 use Rattle.sheet.proofs.Marking.{length-marks, mark-at}

@@ -1,3 +1,5 @@
+pub mod Enter
+pub mod Entries
 pub mod Logic
 pub mod Fold
 pub mod View

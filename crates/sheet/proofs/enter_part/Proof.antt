@@ -1,7 +1,7 @@
 -- The invariant: the first j entries of the part are in place.
 use borrow.Author.Needs.{needs}
 use Prim.Native.Nat.{_-_}
-use Rattle.sheet.proofs.Enter.{Entered, entered-start, entered-step, entered-end}
+use Rattle.theory.proofs.Enter.{Entered, entered-start, entered-step, entered-end}
 use Rattle.sheet.proofs.enter_part.Statement.{statement}
 use Rattle.sheet.proofs.enter_part.Tie as tie
 

@@ -2,7 +2,7 @@
 use Prim.Native.Nat.{_-_}
 use native.Mathlib.Omega.{arith}
 use borrow.Author.Needs.{needs}
-use Rattle.sheet.proofs.Enter.{Entered, entered-start, entered-step, entered-end}
+use Rattle.theory.proofs.Enter.{Entered, entered-start, entered-step, entered-end}
 use Rattle.journal.proofs.call.enter_loads.Statement.{statement}
 use Rattle.journal.proofs.call.enter_loads.Tie as tie
 

@@ -7,7 +7,7 @@ use Rattle.rules.specs.Instance.{instance}
 use Rattle.sheet.specs.Represent.{bookOf}
 use Rattle.sheet.specs.View.{keptPlaces}
 use Rattle.sheet.proofs.SoundArrays.{few-batches, list-size}
-use Rattle.sheet.proofs.Enter.{Entered, entered-start}
+use Rattle.theory.proofs.Enter.{Entered, entered-start}
 use Rattle.sheet.proofs.Placed.{kept-step, kept-end, kept-permitted}
 use Rattle.sheet.proofs.SoundViews.{view-permitted, view-placed}
 use borrow.Author.Needs.{needs}
