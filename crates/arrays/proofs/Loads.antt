@@ -14,13 +14,13 @@ use Rattle.theory.proofs.Fold.{at-put-same, at-put-other, length-put, sumTo-bou
 
 module _ (minutes places : List ℕ) (m : ℕ) where
   -- what job b adds to machine i
-  abbrev pub share : ℕ → ℕ → ℕ
-  share i b = pick (eqb (at places b) i) (at minutes b) 0
+  abbrev pub minutesOn : ℕ → ℕ → ℕ
+  minutesOn i b = pick (eqb (at places b) i) (at minutes b) 0
 
   -- the loads by the first b jobs
   pub record Loaded (b : ℕ) (loads : List ℕ) : Type 0 where
     pub long : length loads ≡ 24
-    pub on : (i : ℕ) → 0 < i → i ≤ m → at loads i ≡ sumTo b (λ j. share i j)
+    pub on : (i : ℕ) → 0 < i → i ≤ m → at loads i ≡ sumTo b (λ j. minutesOn i j)
     pub past : (i : ℕ) → m < i → i ≤ 24 → at loads i ≡ 0
 
   zeros : (i : ℕ) → i ≤ 24 → at (replicate 24 0) i ≡ 0
@@ -35,10 +35,10 @@ module _ (minutes places : List ℕ) (m : ℕ) where
     past = λ i l u. zeros i u;
   }
 
-  share-on : (i b : ℕ) → at places b ≡ i → share i b ≡ at minutes b
+  share-on : (i b : ℕ) → at places b ≡ i → minutesOn i b ≡ at minutes b
   share-on i b e = rw (eq-eqb (at places b) i e)
 
-  share-off : (i b : ℕ) → at places b ≢ i → share i b ≡ 0
+  share-off : (i b : ℕ) → at places b ≢ i → minutesOn i b ≡ 0
   share-off i b n = rw (ne-eqb (at places b) i n)
 
   -- a job on machine k adds to its entry
@@ -72,9 +72,9 @@ module _ (minutes places : List ℕ) (m : ℕ) where
 
   pub loaded-bound : (b k c : ℕ) (loads : List ℕ) → 0 < k → k ≤ m → ((j : ℕ) → at minutes j ≤ c) → Loaded b loads → at loads k ≤ b * c
   loaded-bound b k c loads l u h r =
-      omega (arith, r .on k l u, sumTo-bound b (λ j. share k j) c (λ j p q. small j))
+      omega (arith, r .on k l u, sumTo-bound b (λ j. minutesOn k j) c (λ j p q. small j))
     where
-      small : (j : ℕ) → share k j ≤ c
+      small : (j : ℕ) → minutesOn k j ≤ c
       small j =
           byTest (eqb (at places j) k)
           (λ t. rw t (h j))

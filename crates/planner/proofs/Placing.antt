@@ -36,10 +36,10 @@ module _ {I : Instance} {m c : ℕ} {lengths sets places loads : List ℕ} (r : 
       let z = place-in b bl bu in
       rw (other-is b i bl bu il iu, p .each i il iu, r .minutes b bl bu, ← at-index loads (at places b) (z .0), p .each (at places b) (z .0) (z .1), at-take c places b bu)
 
-  pub improves-is : (b : ℕ) → 0 < b → b ≤ c
+  pub improves-by : (b : ℕ) → 0 < b → b ≤ c
       → anyTo m (λ i. other (at sets b) (at places b) i and ltb (at loads i + at lengths b) (getD loads (at places b - 1) 0)) ≡ improves I (take c places) b
   unfolding improves
-  improves-is b l u =
+  improves-by b l u =
       any-ext m _ _ (λ i il iu. improves-at-is b i l u il iu)
       ∙ ap (λ (k : ℕ). anyTo k (λ i. improvesAt I (take c places) b i)) (sym (r .machines))
 
@@ -50,7 +50,7 @@ module _ {I : Instance} {m c : ℕ} {lengths sets places loads : List ℕ} (r : 
       ∙ ap (λ (k : ℕ). leastTo k (λ i. elsewhere I (take c places) b i) (λ i. load I (take c places) i)) (sym (r .machines))
 
 -- the ranges of what the code reads for the job at index b
-pub record Bounds (m : ℕ) (lengths sets places loads : List ℕ) (b : ℕ) : Type 0 where
+pub record InRange (m : ℕ) (lengths sets places loads : List ℕ) (b : ℕ) : Type 0 where
   pub few : m ≤ 24
   pub timed : b < length lengths
   pub listed : b < length sets
@@ -61,9 +61,9 @@ pub record Bounds (m : ℕ) (lengths sets places loads : List ℕ) (b : ℕ) : T
   pub takes : getD lengths b 0 ≤ 1440
   pub small : (i : ℕ) → i < m → getD loads i 0 ≤ 288000
 
-pub bounds : {m c : ℕ} {lengths sets places loads : List ℕ} → Known m c lengths sets places loads → (b : ℕ) → b < c
-    → Bounds m lengths sets places loads b
-bounds {c = c} {places = places} k b u =
+pub in-range : {m c : ℕ} {lengths sets places loads : List ℕ} → Known m c lengths sets places loads → (b : ℕ) → b < c
+    → InRange m lengths sets places loads b
+in-range {c = c} {places = places} k b u =
     let r = k .said .reads in
     let z = place-in r (k .placing) (suc b) (omega arith) u in
     record {

@@ -33,9 +33,9 @@ stands {I} {m} {c} {lengths} {sets} {x} {loads} r w h =
 
 -- ---- the answer
 
-pub trial-refused : (k : Book) (a : ℕ) → total (instance k) < a → refusedTrial LevelAbove ≡ trialOf k a
+pub answered-refused : (k : Book) (a : ℕ) → total (instance k) < a → refusedTrial LevelAbove ≡ trialOf k a
 unfolding trialOf answer
-trial-refused k a h = rw (lt-leb a (total (instance k)) h) refl
+answered-refused k a h = rw (lt-leb a (total (instance k)) h) refl
 
 module _ (k : Book) (a : ℕ) (h : a ≤ total (instance k)) where
   tried-is : {t : _} → trial (instance k) (places k) a ≡ t → triedAs t ≡ trialOf k a
@@ -44,15 +44,15 @@ module _ (k : Book) (a : ℕ) (h : a ≤ total (instance k)) where
 
   module _ {c : ℕ} {w y loads : List ℕ} {pass : Bool} {group lifts pushes : ℕ} (e : w ≡ places k)
       (t : Tries (instance k) w a c y loads pass group lifts pushes) where
-    pub trial-passed : pass ≡ true → (out : List ℕ) → out ≡ padded 200 (take c y)
+    pub answered-passed : pass ≡ true → (out : List ℕ) → out ≡ padded 200 (take c y)
         → record { refusal = Nothing; passed = true; lifts = lifts; pushes = pushes; places = out; size = 0; group = replicate 24 0 } ≡ trialOf k a
-    trial-passed b out o =
+    answered-passed b out o =
         ap (λ (p : List ℕ). record { refusal = Nothing; passed = true; lifts = lifts; pushes = pushes; places = p; size = 0; group = replicate 24 0 }) o
         ∙ tried-is (ap (λ (p : List ℕ). trial (instance k) p a) (sym e) ∙ t .passes b)
 
-    pub trial-failed : pass ≡ false → (m : ℕ) → instance k .m ≡ m → m ≤ 24 → (list : List ℕ) (size : ℕ) → HoldsList (thoseTo m (λ i. has group i)) list size
+    pub answered-failed : pass ≡ false → (m : ℕ) → instance k .m ≡ m → m ≤ 24 → (list : List ℕ) (size : ℕ) → HoldsList (thoseTo m (λ i. has group i)) list size
         → record { refusal = Nothing; passed = false; lifts = lifts; pushes = pushes; places = replicate 200 0; size = size; group = list } ≡ trialOf k a
-    trial-failed b m q u list size o =
+    answered-failed b m q u list size o =
         let g = members-group m group q u (t .isGroup) (t .isSet b) in
         let front : list ≡ padded 24 (t .machines) = o .padded ∙ (rw (g, o .count, g) refl) in
         let count : size ≡ length (t .machines) = o .count ∙ ap length g in

@@ -13,7 +13,7 @@ use Rattle.rules.specs.Edit.{without, withBatches}
 use Rattle.theory.proofs.Logic.{and-left, and-right, and-mk}
 use Rattle.theory.proofs.Member.{every-at}
 use Rattle.sheet.specs.Represent.{padded, rows, sheetOf}
-use Rattle.sheet.specs.Change.{cut, removed, moved, requalified}
+use Rattle.sheet.specs.Change.{cut, removed, replaced, requalified}
 use Rattle.sheet.proofs.Padded.{length-padded, set-replace, paste-replace, cut-out}
 use Rattle.sheet.proofs.Represent.{narrow, length-rows, rows-append, map-append}
 
@@ -93,8 +93,8 @@ rows-same (b ∷ bs) (suc i) c e = ap (λ (r : List ℕ). padded 24 (b .list) ++
 abbrev pub onto : Batch → ℕ → Batch
 onto b p = record { minutes = b .minutes; list = b .list; place = p }
 
-abbrev pub listing : Batch → List ℕ → ℕ → Batch
-listing b l p = record { minutes = b .minutes; list = l; place = p }
+abbrev pub relisted : Batch → List ℕ → ℕ → Batch
+relisted b l p = record { minutes = b .minutes; list = l; place = p }
 
 without-size : (bs : List Batch) (i : ℕ) → i < length bs → length (without bs i) ≡ length bs - 1
 without-size [] i h = absurd (omega arith)
@@ -115,7 +115,7 @@ remove-law k i h l e =
     )
 
 pub move-law : (k : Book) (i p : ℕ) → i < size k →
-    moved (sheetOf k) i p
+    replaced (sheetOf k) i p
     ≡ sheetOf (withBatches k (set (k .batches) i (onto (getD (k .batches) i noBatchHere) p)))
 unfolding sheetOf
 move-law k i p h =
@@ -131,11 +131,11 @@ move-law k i p h =
 
 pub requalify-law : (k : Book) (i p : ℕ) (l : List ℕ) → i < size k → every narrow (k .batches) ≡ true → length l ≤ 24 →
     requalified (sheetOf k) i p (length l) (padded 24 l)
-    ≡ sheetOf (withBatches k (set (k .batches) i (listing (getD (k .batches) i noBatchHere) l p)))
+    ≡ sheetOf (withBatches k (set (k .batches) i (relisted (getD (k .batches) i noBatchHere) l p)))
 unfolding sheetOf
 requalify-law k i p l h e f =
     let bs = k .batches in
-    let c : Batch = listing (getD bs i noBatchHere) l p in
+    let c : Batch = relisted (getD bs i noBatchHere) l p in
     rw (
       column-set (λ (b : Batch). b .place) bs i h c,
       column-set (λ (b : Batch). length (b .list)) bs i h c,

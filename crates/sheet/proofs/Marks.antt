@@ -37,17 +37,17 @@ mark-rows-last (i ∷ js) j =
     ∙ sym (append-assoc (marksOf (i .list)) (markRows js) (marksOf (j .list)))
 
 -- the rows of the first i lists
-abbrev pub rowsTo : List ℕ → List ℕ → ℕ → List ℕ
-rowsTo counts lists zero = []
-rowsTo counts lists (suc i) = rowsTo counts lists i ++ marksOf (take (getD counts i 0) (drop (i * 24) lists))
+abbrev pub rowsSofar : List ℕ → List ℕ → ℕ → List ℕ
+rowsSofar counts lists zero = []
+rowsSofar counts lists (suc i) = rowsSofar counts lists i ++ marksOf (take (getD counts i 0) (drop (i * 24) lists))
 
-length-rows-to : (counts lists : List ℕ) (i : ℕ) → length (rowsTo counts lists i) ≡ i * 24
+length-rows-to : (counts lists : List ℕ) (i : ℕ) → length (rowsSofar counts lists i) ≡ i * 24
 length-rows-to counts lists zero = refl
 length-rows-to counts lists (suc i) =
     let l : List ℕ = take (getD counts i 0) (drop (i * 24) lists) in
-    omega (arith, length-append (rowsTo counts lists i) (marksOf l), length-marks l, length-rows-to counts lists i)
+    omega (arith, length-append (rowsSofar counts lists i) (marksOf l), length-marks l, length-rows-to counts lists i)
 
-rows-are : (s : Sheet) (i : ℕ) → i ≤ s .n → rowsTo (s .counts) (s .lists) i ≡ markRows (take i (instance (bookOf s) .jobs))
+rows-are : (s : Sheet) (i : ℕ) → i ≤ s .n → rowsSofar (s .counts) (s .lists) i ≡ markRows (take i (instance (bookOf s) .jobs))
 unfolding markRows
 rows-are s zero h = refl
 rows-are s (suc i) h =
@@ -64,7 +64,7 @@ pub record Rows (counts lists : List ℕ) (n : ℕ) (a : List ℕ) (i : ℕ) : T
   pub few : i ≤ n
   pub room : n ≤ 200
   pub long : length a ≡ 4800
-  pub same : a ≡ padded 4800 (rowsTo counts lists i)
+  pub same : a ≡ padded 4800 (rowsSofar counts lists i)
 
 pub rows-start : {counts lists : List ℕ} {n : ℕ} → n ≤ 200 → Rows counts lists n (replicate 4800 0) 0
 rows-start h = record { few = omega arith; room = h; long = length-replicate {A = ℕ} 4800 0; same = refl }
@@ -73,7 +73,7 @@ module _ {counts lists : List ℕ} {n : ℕ} {a : List ℕ} {i : ℕ} (e : Rows 
   -- the next row is all 0
   pub rows-next : i < n → paste a (i * 24) (replicate 24 0) 24 ≡ a
   rows-next h =
-      let r = rowsTo counts lists i in
+      let r = rowsSofar counts lists i in
       let l = length-rows-to counts lists i in
       let z : List ℕ = replicate (4800 - (length r + 24)) 0 in
       let q : a ≡ r ++ (replicate 24 0 ++ z) = e .same ∙ padded-room 4800 24 r (omega arith) in
@@ -84,7 +84,7 @@ module _ {counts lists : List ℕ} {n : ℕ} {a : List ℕ} {i : ℕ} (e : Rows 
   pub rows-step : (b : List ℕ) → i < n →
       b ≡ paste a (i * 24) (marksOf (take (getD counts i 0) (drop (i * 24) lists))) 24 → Rows counts lists n b (i + 1)
   rows-step b h u =
-      let r = rowsTo counts lists i in
+      let r = rowsSofar counts lists i in
       let l : List ℕ = take (getD counts i 0) (drop (i * 24) lists) in
       record {
         few = omega arith;
@@ -94,7 +94,7 @@ module _ {counts lists : List ℕ} {n : ℕ} {a : List ℕ} {i : ℕ} (e : Rows 
             u
             ∙ ap (λ (d : List ℕ). paste d (i * 24) (marksOf l) 24) (e .same)
             ∙ paste-append 4800 r (marksOf l) (i * 24) 24 (length-rows-to counts lists i) (length-marks l) (omega arith)
-            ∙ ap (λ (j : ℕ). padded 4800 (rowsTo counts lists j)) (sym (add-one i));
+            ∙ ap (λ (j : ℕ). padded 4800 (rowsSofar counts lists j)) (sym (add-one i));
       }
 
 pub rows-end : (s : Sheet) (a : List ℕ) (i : ℕ) → Rows (s .counts) (s .lists) (s .n) a i → s .n ≤ i →

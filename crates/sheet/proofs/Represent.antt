@@ -65,9 +65,9 @@ row-at (c ∷ bs) (suc b) z e h =
 -- ---- the book of a book's sheet
 
 -- an entry of one of the arrays of 200
-pub column : (f : Batch → ℕ) → f noBatchHere ≡ 0 → (bs : List Batch) (b : ℕ) →
+pub entry-by : (f : Batch → ℕ) → f noBatchHere ≡ 0 → (bs : List Batch) (b : ℕ) →
     getD (padded 200 (map f bs)) b 0 ≡ f (getD bs b noBatchHere)
-column f z bs b =
+entry-by f z bs b =
     getD-zeros (map f bs) (200 - length (map f bs)) b
     ∙ ap (getD (map f bs) b) (sym z)
     ∙ List·getD-map f bs b noBatchHere
@@ -78,9 +78,9 @@ unfolding sheetOf
 batch-at k b e h =
     let bs = k .batches in
     rw (
-      column (λ (c : Batch). c .minutes) refl bs b,
-      column (λ (c : Batch). c .place) refl bs b,
-      column (λ (c : Batch). length (c .list)) refl bs b,
+      entry-by (λ (c : Batch). c .minutes) refl bs b,
+      entry-by (λ (c : Batch). c .place) refl bs b,
+      entry-by (λ (c : Batch). length (c .list)) refl bs b,
       row-at bs b (replicate (4800 - length (rows bs)) 0) e h,
     )
 

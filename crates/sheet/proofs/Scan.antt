@@ -22,7 +22,7 @@ pub record Passes (p : ℕ → Bool) (l : List ℕ) (from i : ℕ) : Type 0 wher
   pub same : every p (drop i l) ≡ every p (drop from l)
 
 -- they name no number twice as those do
-pub record Apart (l : List ℕ) (from i : ℕ) : Type 0 where
+pub record DistinctSo (l : List ℕ) (from i : ℕ) : Type 0 where
   pub same : distinct (drop i l) ≡ distinct (drop from l)
 
 rest : (l : List ℕ) (i : ℕ) → i < length l → drop i l ≡ getD l i 0 ∷ drop (i + 1) l
@@ -54,12 +54,12 @@ module _ {p : ℕ → Bool} {l : List ℕ} {from i : ℕ} (s : Passes p l from i
   unfolding every
   every-end h = sym (sym (s .same) ∙ ap (every p) (drop-of-length-le l h))
 
-module _ {l : List ℕ} {from i : ℕ} (s : Apart l from i) where
+module _ {l : List ℕ} {from i : ℕ} (s : DistinctSo l from i) where
   pub twice : i < length l → mem (getD l i 0) (drop (i + 1) l) ≡ true → false ≡ distinct (drop from l)
   unfolding distinct _and_
   twice h e = sym (sym (s .same) ∙ ap distinct (rest l i h) ∙ rw e)
 
-  pub once : i < length l → mem (getD l i 0) (drop (i + 1) l) ≡ false → Apart l from (i + 1)
+  pub once : i < length l → mem (getD l i 0) (drop (i + 1) l) ≡ false → DistinctSo l from (i + 1)
   unfolding distinct _and_
   once h e = record { same = sym (ap distinct (rest l i h) ∙ rw e) ∙ s .same }
 
@@ -70,14 +70,14 @@ module _ {l : List ℕ} {from i : ℕ} (s : Apart l from i) where
 -- ---- a part of a list
 
 -- the part's entries from i on name x as the whole part does
-pub record Part (x : ℕ) (l : List ℕ) (from count i : ℕ) : Type 0 where
+pub record NamedIn (x : ℕ) (l : List ℕ) (from count i : ℕ) : Type 0 where
   pub seeks : Seeks x (take (from + count) l) from i
   pub few : i ≤ from + count
 
-pub part-start : {x : ℕ} {l : List ℕ} {from count : ℕ} → Part x l from count from
+pub part-start : {x : ℕ} {l : List ℕ} {from count : ℕ} → NamedIn x l from count from
 part-start = record { seeks = record { same = refl }; few = omega arith }
 
-module _ {x : ℕ} {l : List ℕ} {from count i : ℕ} (p : Part x l from count i) (f : from + count ≤ length l) where
+module _ {x : ℕ} {l : List ℕ} {from count i : ℕ} (p : NamedIn x l from count i) (f : from + count ≤ length l) where
   long : length (take (from + count) l) ≡ from + count
   long = length-take-le (from + count) l f
 
@@ -90,7 +90,7 @@ module _ {x : ℕ} {l : List ℕ} {from count i : ℕ} (p : Part x l from count 
   part-hit h e =
       mem-hit (p .seeks) (omega (arith, long)) (getD-take (from + count) l i 0 h ∙ e) ∙ ap (mem x) part
 
-  pub part-miss : i < from + count → (getD l i 0 ≡ x → ⊥) → Part x l from count (i + 1)
+  pub part-miss : i < from + count → (getD l i 0 ≡ x → ⊥) → NamedIn x l from count (i + 1)
   part-miss h e = record {
     seeks = mem-miss (p .seeks) (omega (arith, long)) (λ g. e (sym (getD-take (from + count) l i 0 h) ∙ g));
     few = omega arith;

@@ -16,7 +16,7 @@ use Rattle.theory.proofs.Member.{every-at}
 use Rattle.theory.proofs.Sound.{Good, good-is, sound-is, good-batch, good-ranged}
 use Rattle.sheet.specs.declared.Sheet.{Sheet}
 use Rattle.sheet.specs.Represent.{sheetOf, batchAt, batchesTo, bookOf, Sound}
-use Rattle.sheet.proofs.Represent.{narrow, column, sound-narrow}
+use Rattle.sheet.proofs.Represent.{narrow, entry-by, sound-narrow}
 
 -- ---- the book's parts
 
@@ -66,7 +66,7 @@ in-range b n e = (leb-true _ _ (and-left _ _ e), leb-true _ _ (and-right (leb 1 
 
 counts-at : (k : Book) (i : ℕ) → getD (sheetOf k .counts) i 0 ≡ length (getD (k .batches) i noBatchHere .list)
 unfolding sheetOf
-counts-at k i = column (λ (c : Batch). length (c .list)) refl (k .batches) i
+counts-at k i = entry-by (λ (c : Batch). length (c .list)) refl (k .batches) i
 
 -- ---- a good list
 

@@ -9,7 +9,7 @@ use Rattle.sheet.specs.declared.Sheet.{Sheet}
 unfoldable pub cut : ℕ → ℕ → List ℕ → List ℕ
 cut at by xs = take at xs ++ (drop (at + by) xs ++ replicate by 0)
 
--- the batch at the index i taken out, the later ones moved down
+-- the batch at the index i taken out, the later ones replaced down
 abbrev pub removed : Sheet → ℕ → Sheet
 removed s i = record {
   m = s .m;
@@ -21,8 +21,8 @@ removed s i = record {
 }
 
 -- the batch at the index i on p
-abbrev pub moved : Sheet → ℕ → ℕ → Sheet
-moved s i p = record {
+abbrev pub replaced : Sheet → ℕ → ℕ → Sheet
+replaced s i p = record {
   m = s .m;
   n = s .n;
   minutes = s .minutes;

@@ -22,7 +22,7 @@ use Rattle.theory.proofs.Acting.{below, deed-pushes, deed-lifts, deed-ext, act-
 use Rattle.arrays.specs.Sets.{has}
 use Rattle.arrays.proofs.Kept.{kept-on}
 use Rattle.trials.specs.declared.State.{State}
-use Rattle.trials.specs.Moves.{waits, placed, jobLifted}
+use Rattle.trials.specs.Moves.{waits, jobPlaced, jobLifted}
 use Rattle.trials.specs.Track.{stateOf, idle, JobActs, Stepped}
 use Rattle.arrays.proofs.Take.{at-take, take-put}
 use Rattle.trials.proofs.Waiting.{some-machine, first-can}
@@ -94,7 +94,7 @@ module _ {I : Instance} {a : Limits} {m c : ℕ} {lengths sets : List ℕ} {t : 
     act-push : act I a s ≡ byJob (suc b) (push (suc j))
     act-push = acts-by ∙ ap (byJob (suc b)) (deed-is ∙ deed-pushes m mask high _ j e)
 
-    pub job-placed : (w : ℕ) → getD lengths b 0 ≡ w → length (t .loads) ≡ 24 → Stepped I a sets t (placed t b j w sets c)
+    pub job-placed : (w : ℕ) → getD lengths b 0 ≡ w → length (t .loads) ≡ 24 → Stepped I a sets t (jobPlaced t b j w sets c)
     job-placed w f long = record {
       is = (rw (add-one j, take-put (n I) (t .places) (suc b) (suc j) in-all, add-one (t .pushes))) ∙ sym (ap (after s) act-push);
       rests = v .tracks .acting ∙ sym (ap idle act-push);
@@ -104,7 +104,7 @@ module _ {I : Instance} {a : Limits} {m c : ℕ} {lengths sets : List ℕ} {t : 
             (kept-on I (s .assignment) (t .loads) (suc b) (shape .jobs) (omega arith) in-all (omega (arith, v .reads .machines, v .reads .few))
             (v .tracks .beside .loads) w (sym f ∙ v .reads .minutes (suc b) (omega arith) job-in) (suc j) no-place (omega arith)
             (omega (arith, goal-in, v .reads .machines)) i i0 im);
-        waiting = ap (λ (k : ℕ). firstTo k (λ d. waits (placed t b j w sets c .places) sets d)) (sym (v .reads .jobs));
+        waiting = ap (λ (k : ℕ). firstTo k (λ d. waits (jobPlaced t b j w sets c .places) sets d)) (sym (v .reads .jobs));
       };
     }
 

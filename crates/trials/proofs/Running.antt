@@ -19,13 +19,13 @@ use Rattle.trials.specs.Moves.{waits}
 use Rattle.trials.specs.Track.{stateOf, idle, Beside, Setup, Trying, Stepped, Starts, Ends}
 
 -- the steps of the rules lead from x to t, and nothing acts there where t rests
-pub record Going (I : Instance) (a : Limits) (sets : List ℕ) (x : Assignment) (t : State) : Type 0 where
+pub record Underway (I : Instance) (a : Limits) (sets : List ℕ) (x : Assignment) (t : State) : Type 0 where
   pub leads : Leads I a (T.start I x) (stateOf I t)
   pub counted : Counted I (stateOf I t)
   pub rests : t .resting ≡ true → act I a (stateOf I t) ≡ rest
   pub beside : Beside I sets t
 
-module _ {I : Instance} {a : Limits} {m c : ℕ} {lengths sets lows highs : List ℕ} {x : Assignment} {t : State} (g : Going I a sets x t) where
+module _ {I : Instance} {a : Limits} {m c : ℕ} {lengths sets lows highs : List ℕ} {x : Assignment} {t : State} (g : Underway I a sets x t) where
   pub trying : Setup I a m c lengths sets lows highs → t .resting ≡ false → Trying I a m c lengths sets lows highs t
   trying u e = record { setup = u; tracks = record { counted = g .counted; beside = g .beside; acting = e } }
 
@@ -34,7 +34,7 @@ rests-of T.rest e = refl
 rests-of (T.byJob b d) e = conflict e refl
 rests-of (T.byMachine i d) e = conflict e refl
 
-pub one-more : {I : Instance} {a : Limits} {sets : List ℕ} {x : Assignment} {t u : State} → Going I a sets x t → Stepped I a sets t u → Going I a sets x u
+pub one-more : {I : Instance} {a : Limits} {sets : List ℕ} {x : Assignment} {t u : State} → Underway I a sets x t → Stepped I a sets t u → Underway I a sets x u
 one-more {I} {a} {sets} {x} {t} {u} g k = record {
   leads = leads-trans (g .leads) (step {s = stateOf I t} {t = stateOf I u} (subst (λ (z : T.State). Leads I a z (stateOf I u)) (k .is) here));
   counted = subst (λ (z : T.State). Counted I z) (sym (k .is)) (counted-step I a (stateOf I t) (g .counted));
@@ -46,7 +46,7 @@ one-more {I} {a} {sets} {x} {t} {u} g k = record {
 }
 
 pub at-end : {I : Instance} {a : Limits} {m c : ℕ} {lengths sets lows highs places loads : List ℕ} {t : State}
-    → Starts I a m c lengths sets lows highs places loads → Going I a sets (take c places) t → t .resting ≡ true → Ends I a (take c places) t
+    → Starts I a m c lengths sets lows highs places loads → Underway I a sets (take c places) t → t .resting ≡ true → Ends I a (take c places) t
 at-end {I} {a} {c = c} {places = places} w g e = record {
   is = leads-end I (take c places) (w .partial) a (g .leads) (g .rests e);
   loads = g .beside .loads;
@@ -104,7 +104,7 @@ module _ {I : Instance} {a : Limits} {m c : ℕ} {lengths sets lows highs places
         r .jobs,
       )
 
-  pub begun : Going I a sets (take c places) (fresh places loads waiting)
+  pub begun : Underway I a sets (take c places) (fresh places loads waiting)
   begun = record {
     leads = subst (λ (z : T.State). Leads I a (T.start I (take c places)) z) (sym fresh-is) here;
     counted = subst (λ (z : T.State). Counted I z) (sym fresh-is) (counted-start I (take c places) (w .partial) a);

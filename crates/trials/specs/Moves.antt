@@ -48,8 +48,8 @@ machineLifted t i h = record {
 }
 
 -- job b, of n with these sets, is put on machine i
-abbrev pub placed : State → ℕ → ℕ → ℕ → List ℕ → ℕ → State
-placed t b i w sets n = record {
+abbrev pub jobPlaced : State → ℕ → ℕ → ℕ → List ℕ → ℕ → State
+jobPlaced t b i w sets n = record {
   machines = t .machines;
   jobs = t .jobs;
   places = set (t .places) b (i + 1);

@@ -3,7 +3,7 @@ ghost use mathlib.Core.Path.{_≡_};
 ghost use Prim.Native.Nat.{_+_, _<_, _≤_, _^_};
 ghost use lib.ListN.{length, getD};
 ghost use Rattle.theory.proofs.View.{None};
-ghost use Rattle.trials.specs.Moves.{waits, jobLifted, machineLifted, placed, takenOff, rested};
+ghost use Rattle.trials.specs.Moves.{waits, jobLifted, machineLifted, jobPlaced, takenOff, rested};
 use crate::scan::first_waiting;
 use arrays::JOBS;
 use arrays::MACHINES;
@@ -61,7 +61,7 @@ impl State {
     fn place(mut self, b: usize, i: usize, w: u32, masks: &[u32], n: usize) -> State
         requires { ⌜ (b < n) × (i < 24) × (n ≤ 200) × (n ≤ length (now masks)) × (getD (self .loads) i 0 + w < 2 ^ 32) × (self .pushes + 1 < 2 ^ 32) ⌝ }
         requires { ⌜ None b (λ c. waits (self .places) (now masks) c) ⌝ }
-        ensures { λ r. ⌜ r ≡ placed self b i w (now (masks .entry)) n ⌝ }
+        ensures { λ r. ⌜ r ≡ jobPlaced self b i w (now (masks .entry)) n ⌝ }
     {
         self.places[b] = (i + 1) as u8;
         self.loads[i] = self.loads[i] + w;

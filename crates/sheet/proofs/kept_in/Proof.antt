@@ -1,4 +1,4 @@
--- `kept_in` meets its contract.
+-- By whether the place is listed.
 use Prim.Native.Nat.{ℕ}
 use native.Mathlib.Omega.{arith}
 use mathlib.Core.Path.{sym, ap, _∙_}

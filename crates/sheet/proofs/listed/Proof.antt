@@ -1,13 +1,13 @@
--- `listed` meets its contract.
+-- The invariant: what is left of the part names x exactly where the whole does.
 use borrow.Author.Needs.{needs}
 use native.Mathlib.Omega.{arith}
 use Prim.Native.Nat.{_-_}
-use Rattle.sheet.proofs.Scan.{Part, part-start, part-hit, part-miss, part-end}
+use Rattle.sheet.proofs.Scan.{NamedIn, part-start, part-hit, part-miss, part-end}
 use Rattle.sheet.proofs.listed.Statement.{statement}
 use Rattle.sheet.proofs.listed.Tie as tie
 
 abbrev Inv-loop : tie.InvT-loop
-Inv-loop lists from count x end i₀ i = Part x lists from count i
+Inv-loop lists from count x end i₀ i = NamedIn x lists from count i
 
 abbrev μ-loop : tie.MeasureT-loop
 μ-loop lists from count x end i₀ i = end - i

@@ -9,7 +9,7 @@ use Rattle.rules.specs.Load.{total, longest}
 use Rattle.theory.proofs.Small.{total-small, longest-small}
 use Rattle.sheet.specs.Represent.{bookOf}
 use Rattle.planner.proofs.Answered.{trial-answered}
-use Rattle.planner.proofs.TrialAnswers.{trial-refused, trial-passed, trial-failed}
+use Rattle.planner.proofs.TrialAnswers.{answered-refused, answered-passed, answered-failed}
 use Rattle.planner.proofs.calls.trial.Statement.{statement}
 use Rattle.planner.proofs.calls.trial.Tie as tie
 
@@ -60,7 +60,7 @@ returns : tie.Need-returns
 returns c =
     let a = total-by (c .before) in
     let z = c .if1 .taken in
-    trial-answered (at-lay (c .before) .before .pre .book) (trial-refused _ _ (omega arith))
+    trial-answered (at-lay (c .before) .before .pre .book) (answered-refused _ _ (omega arith))
 
 slice-aggregate-longest-of : tie.Need-slice-aggregate-longest-of
 slice-aggregate-longest-of c = search needs
@@ -100,7 +100,7 @@ returns-2 c =
     let l = at-lay (level (tried t) .before) .lay .ensures in
     let y = t .try-level .ensures _ (l .stands) (omega (arith, longest-by (tried t))) in
     trial-answered (at-lay (level (tried t) .before) .before .pre .book)
-    (trial-passed _ _ (within (level (tried t))) (l .shown) y (c .before .before .if2 .taken) _ (c .front .ensures))
+    (answered-passed _ _ (within (level (tried t))) (l .shown) y (c .before .before .if2 .taken) _ (c .front .ensures))
 
 members-of-requires : tie.Need-members-of-requires
 members-of-requires c κs = at-lay (level (tried (c .before)) .before) .lay .ensures .stands .reads .few
@@ -112,7 +112,7 @@ returns-3 c =
     let r = l .stands .reads in
     let y = t .try-level .ensures _ (l .stands) (omega (arith, longest-by (tried t))) in
     trial-answered (at-lay (level (tried t) .before) .before .pre .book)
-    (trial-failed _ _ (within (level (tried t))) (l .shown) y (c .before .before .if2 .left) _ (r .machines) (r .few) _ _ (c .before .members-of .ensures))
+    (answered-failed _ _ (within (level (tried t))) (l .shown) y (c .before .before .if2 .left) _ (r .machines) (r .few) _ _ (c .before .members-of .ensures))
 
 pub trial-spec : {M : Type 1} → statement M
 trial-spec =

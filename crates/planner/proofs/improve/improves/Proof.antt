@@ -11,7 +11,7 @@ use Rattle.theory.proofs.Logic.{and-mk, and-no-left, and-no-right}
 use Rattle.theory.proofs.View.{None, none-more, none-zero, any-at}
 use Rattle.theory.proofs.Agree.{any-miss}
 use Rattle.planner.specs.Settling.{other}
-use Rattle.planner.proofs.Placing.{Bounds, bounds, improves-is}
+use Rattle.planner.proofs.Placing.{InRange, in-range, improves-by}
 use borrow.Author.Needs.{needs}
 use Rattle.planner.proofs.improve.improves.Statement.{statement}
 use Rattle.planner.proofs.improve.improves.Tie as tie
@@ -22,8 +22,8 @@ Inv-loop loads places minutes masks m b w mask place p top i₀ i = (i ≤ m) ×
 abbrev μ-loop : tie.MeasureT-loop
 μ-loop loads places minutes masks m b w mask place p top i₀ i = m - i
 
-known : (c : tie.Start Inv-loop μ-loop) → Bounds (c .args .m) (c .args .minutes .now) (c .args .masks .now) (c .args .places .now) (c .args .loads .now) (c .args .b)
-known c = bounds (c .pre .1) (c .args .b) (c .pre .2)
+known : (c : tie.Start Inv-loop μ-loop) → InRange (c .args .m) (c .args .minutes .now) (c .args .masks .now) (c .args .places .now) (c .args .loads .now) (c .args .b)
+known c = in-range (c .pre .1) (c .args .b) (c .pre .2)
 
 mul-w : tie.Need-mul-w Inv-loop μ-loop
 mul-w c = let k = known (c .before .before .before .before) in omega arith
@@ -78,7 +78,7 @@ returns c =
     λ I n r p u.
     sym (any-at (a .m) _ (suc i) (omega arith) (omega arith)
     (and-mk _ _ (sym (c .before .is-other .ensures) ∙ c .if2 .taken) (lt-ltb _ _ (c .before .before .if1 .taken))))
-    ∙ improves-is r p (suc (a .b)) (omega arith) u
+    ∙ improves-by r p (suc (a .b)) (omega arith) u
 
 add-i : tie.Need-add-i Inv-loop μ-loop
 add-i c = search needs
@@ -100,7 +100,7 @@ returns-2 : tie.Need-returns-2 Inv-loop μ-loop
 returns-2 c =
     let a = c .before .before .before .before .before .before .before .before .before .before .args in
     let e : c .before .loop .i ≡ a .m = omega arith in
-    λ I n r p u. sym (any-miss (a .m) _ (rw e at (c .before .loop .inv .1))) ∙ improves-is r p (suc (a .b)) (omega arith) u
+    λ I n r p u. sym (any-miss (a .m) _ (rw e at (c .before .loop .inv .1))) ∙ improves-by r p (suc (a .b)) (omega arith) u
 
 pub improves-spec : {M : Type 1} → statement M
 improves-spec =

@@ -2,16 +2,16 @@
 use Prim.Native.Nat.{_-_}
 use native.Mathlib.Omega.{arith}
 use lib.ListN.{getD}
-use Rattle.planner.proofs.Placing.{Bounds, bounds}
+use Rattle.planner.proofs.Placing.{InRange, in-range}
 use Rattle.planner.proofs.Relocate.{Ready, due-in, ready, relocated}
 use borrow.Author.Needs.{needs}
 use Rattle.planner.proofs.settle.relocate.Statement.{statement}
 use Rattle.planner.proofs.settle.relocate.Tie as tie
 
-known : (c : tie.Start) → Bounds (c .args .m) (c .args .minutes .now) (c .args .masks .now) (c .args .places .now) (c .args .loads .now) (c .args .k)
+known : (c : tie.Start) → InRange (c .args .m) (c .args .minutes .now) (c .args .masks .now) (c .args .places .now) (c .args .loads .now) (c .args .k)
 known c =
     let k = c .pre .known in
-    bounds k (c .args .k) (due-in (k .said .reads) (k .placing) (c .args .k) (c .pre .next))
+    in-range k (c .args .k) (due-in (k .said .reads) (k .placing) (c .args .k) (c .pre .next))
 
 -- what is known once the machine is that it goes to
 ready-at : (c : tie.After-least-other) → let st = c .before .before .before .before .before .before .before .before in

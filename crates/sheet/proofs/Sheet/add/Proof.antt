@@ -1,4 +1,4 @@
--- `Sheet::add` meets its contract.
+-- Refused in the order of the rules, or the batch is appended.
 use native.Mathlib.Omega.{arith}
 use borrow.Author.Needs.{needs}
 use Rattle.sheet.proofs.Answered.{edit-answered}

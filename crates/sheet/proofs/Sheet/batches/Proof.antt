@@ -1,4 +1,4 @@
--- `Sheet::batches` meets its contract.
+-- The book has the sheet's batches.
 use mathlib.Core.Path.{sym}
 use Rattle.sheet.proofs.SoundViews.{view-size}
 use Rattle.sheet.proofs.Sheet.batches.Statement.{statement}

@@ -1,4 +1,4 @@
--- `Sheet::eligibility` meets its contract: after i turns the rows of the first i batches are marked.
+-- The invariant: the rows of the first i batches are marked.
 use Prim.Native.Nat.{_-_}
 use mathlib.Core.Path.{_≡_}
 use native.Mathlib.Omega.{arith}

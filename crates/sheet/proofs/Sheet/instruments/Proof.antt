@@ -1,4 +1,4 @@
--- `Sheet::instruments` meets its contract.
+-- The book has the sheet's instruments.
 use mathlib.Core.Path.{sym}
 use Rattle.sheet.proofs.SoundArrays.{book-m}
 use Rattle.sheet.proofs.Sheet.instruments.Statement.{statement}

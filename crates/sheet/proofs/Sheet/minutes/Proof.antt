@@ -1,4 +1,4 @@
--- `Sheet::minutes` meets its contract.
+-- A sound sheet's minutes are its book's.
 use Rattle.sheet.proofs.SoundViews.{view-minutes}
 use Rattle.sheet.proofs.Sheet.minutes.Statement.{statement}
 use Rattle.sheet.proofs.Sheet.minutes.Tie as tie

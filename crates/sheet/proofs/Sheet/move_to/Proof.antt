@@ -1,4 +1,4 @@
--- `Sheet::move_to` meets its contract.
+-- Refused in the order of the rules, or the place is entered.
 use native.Mathlib.Omega.{arith}
 use mathlib.Core.Path.{_≡_}
 use borrow.Author.Needs.{needs}

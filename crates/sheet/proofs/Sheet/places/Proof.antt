@@ -1,4 +1,4 @@
--- `Sheet::places` meets its contract.
+-- A sound sheet's places are its book's.
 use Rattle.sheet.proofs.SoundViews.{view-places}
 use Rattle.sheet.proofs.Sheet.places.Statement.{statement}
 use Rattle.sheet.proofs.Sheet.places.Tie as tie

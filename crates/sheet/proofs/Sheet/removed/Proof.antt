@@ -1,4 +1,4 @@
--- `Sheet::removed` meets its contract.
+-- Each array loses its part at the batch.
 use native.Mathlib.Omega.{arith}
 use mathlib.Core.Path.{_≡_}
 use lib.ListN.{length}

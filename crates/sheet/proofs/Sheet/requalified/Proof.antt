@@ -1,4 +1,4 @@
--- `Sheet::requalified` meets its contract.
+-- Three stores.
 use native.Mathlib.Omega.{arith}
 use mathlib.Core.Path.{_≡_}
 use lib.ListN.{length}

@@ -1,4 +1,4 @@
--- `Sheet::requalify` meets its contract.
+-- Refused in the order of the rules, or the batch has its new list and place.
 use native.Mathlib.Omega.{arith}
 use mathlib.Core.Path.{_≡_}
 use borrow.Author.Needs.{needs}

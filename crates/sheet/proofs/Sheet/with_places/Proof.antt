@@ -1,4 +1,4 @@
--- `Sheet::with_places` meets its contract: after b turns the first b batches have their places.
+-- The invariant: the first b batches have their places.
 use Prim.Native.Nat.{_-_, _≤_}
 use mathlib.Core.Path.{_≡_}
 use native.Mathlib.Omega.{arith}

@@ -1,4 +1,4 @@
--- `Sheet::withdraw` meets its contract.
+-- Refused, or the batch is taken out.
 use native.Mathlib.Omega.{arith}
 use borrow.Author.Needs.{needs}
 use Rattle.sheet.proofs.Answered.{edit-answered}

@@ -1,14 +1,14 @@
--- `all_distinct` meets its contract.
+-- The invariant: the rest has no number twice exactly where the whole has none.
 use borrow.Author.Needs.{needs}
 use Prim.Native.Nat.{_-_}
 use mathlib.Core.Path.{refl, sym, _∙_}
 use lib.ListN.{length}
-use Rattle.sheet.proofs.Scan.{Apart, twice, once, distinct-end}
+use Rattle.sheet.proofs.Scan.{DistinctSo, twice, once, distinct-end}
 use Rattle.sheet.proofs.edit.all_distinct.Statement.{statement}
 use Rattle.sheet.proofs.edit.all_distinct.Tie as tie
 
 abbrev Inv-loop : tie.InvT-loop
-Inv-loop list i₀ i = Apart list 0 i
+Inv-loop list i₀ i = DistinctSo list 0 i
 
 abbrev μ-loop : tie.MeasureT-loop
 μ-loop list i₀ i = length list - i

@@ -1,4 +1,4 @@
--- `all_instruments` meets its contract.
+-- The invariant: the rest passes exactly where the whole does.
 use borrow.Author.Needs.{needs}
 use native.Mathlib.Omega.{arith}
 use Prim.Native.Nat.{_-_}

@@ -1,4 +1,4 @@
--- `good_list` meets its contract.
+-- One test after the other, as `goodList` has them.
 use mathlib.Core.Path.{_∙_}
 use Rattle.sheet.proofs.Scan.{failed, passed, list-empty, list-long, list-strange, list-apart}
 use borrow.Author.Needs.{needs}

@@ -1,4 +1,4 @@
--- `named_from` meets its contract.
+-- The invariant: what is left names x exactly where the whole does.
 use borrow.Author.Needs.{needs}
 use Prim.Native.Nat.{_-_}
 use mathlib.Core.Path.{refl}

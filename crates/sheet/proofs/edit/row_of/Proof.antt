@@ -1,4 +1,4 @@
--- `row_of` meets its contract.
+-- The invariant: the first i entries are in the row, zeros after them.
 use borrow.Author.Needs.{needs}
 use native.Mathlib.Omega.{arith}
 use Prim.Native.Nat.{_-_}

@@ -1,4 +1,4 @@
--- `shift_minutes` meets its contract: the entries below i are moved.
+-- The invariant: the entries below i are moved.
 use Prim.Native.Nat.{_-_}
 use mathlib.Core.Logic.{⊎-elim}
 use native.Mathlib.Omega.{arith}

@@ -1,4 +1,4 @@
--- `within` meets its contract.
+-- By whether x is 0.
 use mathlib.Core.Path.{_≡_}
 use mathlib.Core.Bool.{false}
 use Prim.Native.Nat.{ℕ}

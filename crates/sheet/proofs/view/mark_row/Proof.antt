@@ -1,4 +1,4 @@
--- `mark_row` meets its contract: after j turns the first j that the list names are marked.
+-- The invariant: the first j that the list names are marked.
 use Prim.Native.Nat.{_-_}
 use native.Mathlib.Omega.{arith}
 use borrow.Author.Needs.{needs}

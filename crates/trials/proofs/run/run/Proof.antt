@@ -7,13 +7,13 @@ use Rattle.rules.specs.Trial.{Limits}
 use Rattle.theory.proofs.View.{none-zero}
 use Rattle.trials.specs.Track.{Starts}
 use Rattle.trials.proofs.Small.{few-steps}
-use Rattle.trials.proofs.Running.{Going, begun, trying, one-more, at-end, left, nearer}
+use Rattle.trials.proofs.Running.{Underway, begun, trying, one-more, at-end, left, nearer}
 use Rattle.trials.proofs.run.run.Statement.{statement}
 use Rattle.trials.proofs.run.run.Tie as tie
 
 abbrev Inv-loop : tie.InvT-loop
 Inv-loop minutes masks low high m n waiting s₀ s =
-    (I : Instance) (a : Limits) → Starts I a m n minutes masks low high (s₀ .places) (s₀ .loads) → Going I a masks (take n (s₀ .places)) s
+    (I : Instance) (a : Limits) → Starts I a m n minutes masks low high (s₀ .places) (s₀ .loads) → Underway I a masks (take n (s₀ .places)) s
 
 abbrev μ-loop : tie.MeasureT-loop
 μ-loop minutes masks low high m n waiting s₀ s = left s
