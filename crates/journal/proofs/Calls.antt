@@ -115,7 +115,7 @@ line-leaves r =
 
 -- ---- an entry that is read from at on: its call, and where it ends
 
-pub record Given (s : List ℕ) (at b : ℕ) (p : Part Call) (e : Entry) : Type 0 where
+pub record EntryRead (s : List ℕ) (at b : ℕ) (p : Part Call) (e : Entry) : Type 0 where
   pub call : Call
   pub part : p ≡ gives call (drop (e .next) s)
   pub same : e ≡ entryOf call (e .next)
@@ -151,7 +151,7 @@ count-kept (trying a) n = omega arith
 count-kept planning n = omega arith
 
 pub given : (s : List ℕ) (at b : ℕ) (p : Part Call) (e : Entry) → at ≤ length s → Leaves b (drop at s) p
-    → e ≡ entryAs (length s) p → e .fault ≡ false → Given s at b p e
+    → e ≡ entryAs (length s) p → e .fault ≡ false → EntryRead s at b p e
 given s at b p e h (refuse g) q t = conflict (ap (λ (x : Entry). x .fault) q) t
 given s at b p e h (give c k i j) q t =
     let d : drop k (drop at s) ≡ drop (at + k) s = drop-drop k at s in

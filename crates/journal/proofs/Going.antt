@@ -20,7 +20,7 @@ use Rattle.journal.specs.declared.call.Made.{Made}
 use Rattle.journal.specs.Entry.{entryAs, entryOf, linesFrom}
 use Rattle.journal.specs.Answering.{callSaid, madeOf, isPlan, lineOf, lineLength, Fitting}
 use Rattle.journal.specs.Running.{Spells, textOf}
-use Rattle.journal.proofs.Calls.{Given, count-kept}
+use Rattle.journal.proofs.Calls.{EntryRead, count-kept}
 use Rattle.journal.proofs.Linewise.{journal-is, entry-given, lines-first, lines-fault, lines-end}
 use Rattle.journal.proofs.Said.{made-said}
 use Rattle.journal.proofs.Fitting.{answer-fits, line-is, line-of-length}
@@ -100,7 +100,7 @@ start-wrote s v j p d = rw (start-written s v j p) (wrote-none d 0 (omega arith)
 
 -- the next line
 pub record Turn (j : List ℕ) (at line : ℕ) (left : List Call) (e : Entry) : Type 0 where
-  pub given : Given j at 7 (callLine (drop at j)) e
+  pub given : EntryRead j at 7 (callLine (drop at j)) e
   pub rest : List Call
   pub lines : linesFrom (suc line) (drop (e .next) j) ≡ calls rest
   pub parts : left ≡ given .call ∷ rest
@@ -109,7 +109,7 @@ never : (l : Journal) (i : ℕ) (cs : List Call) → l ≡ faulty i → l ≡ ca
 never l i cs p q = let z : _≡_ {A = ℕ} 0 1 = cc in omega arith
 
 module _ {k : Book} {j : List ℕ} {s : Sheet} {at : ℕ} (g : Going k j s at) where
-  turn : (e : Entry) (f : Given j at 7 (callLine (drop at j)) e) (l : Journal) → linesFrom (suc (g .line)) (drop (e .next) j) ≡ l
+  turn : (e : Entry) (f : EntryRead j at 7 (callLine (drop at j)) e) (l : Journal) → linesFrom (suc (g .line)) (drop (e .next) j) ≡ l
       → withCall (f .call) l ≡ calls (g .left) → Turn j at (g .line) (g .left) e
   turn e f (calls rest) p q = record { given = f; rest = rest; lines = p; parts = cc }
   turn e f (faulty i) p q = absurd (never (faulty i) i (g .left) refl q)

@@ -15,7 +15,7 @@ use Rattle.rules.specs.Journal.{callLine, Journal, calls, faulty, withCall, onC
 use Rattle.theory.proofs.Logic.{conflict}
 use Rattle.journal.specs.declared.entry.Entry.{Entry}
 use Rattle.journal.specs.Entry.{entryAs, linesFrom, faultOf}
-use Rattle.journal.proofs.Calls.{Leaves, refuse, give, line-leaves, Given, given, fault-of}
+use Rattle.journal.proofs.Calls.{Leaves, refuse, give, line-leaves, EntryRead, given, fault-of}
 
 -- ---- as many turns as there are bytes are enough
 
@@ -66,11 +66,11 @@ journal-is s = refl
 
 module _ (s : List ℕ) (at : ℕ) (e : Entry) (q : e ≡ entryAs (length s) (callLine (drop at s))) where
   -- the line at at, with its call and its end
-  pub entry-given : at ≤ length s → e .fault ≡ false → Given s at 7 (callLine (drop at s)) e
+  pub entry-given : at ≤ length s → e .fault ≡ false → EntryRead s at 7 (callLine (drop at s)) e
   entry-given h t = given s at 7 (callLine (drop at s)) e h (line-leaves (drop at s)) q t
 
   -- the lines from there on are it and the lines from its end on
-  pub lines-first : (j : ℕ) (g : Given s at 7 (callLine (drop at s)) e)
+  pub lines-first : (j : ℕ) (g : EntryRead s at 7 (callLine (drop at s)) e)
       → linesFrom j (drop at s) ≡ withCall (g .call) (linesFrom (suc j) (drop (e .next) s))
   lines-first j g =
       lines-more j (drop at s) (drop (e .next) s) (g .call) (g .part)

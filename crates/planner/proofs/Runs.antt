@@ -19,12 +19,12 @@ use Rattle.sheet.specs.declared.Refusal.the-variants.{Nothing}
 use Rattle.sheet.proofs.Accepted.{is-accepted}
 use Rattle.sheet.proofs.Represent.{book-sheet, sheet-sound}
 use Rattle.planner.specs.Calls.{Reply, replyNumbers, planOf}
-use Rattle.planner.specs.Runs.{Link, editing, reviewing, trying, planning, Chain, link, chainNumbers, Stands, Holds, call, Whole}
+use Rattle.planner.specs.Runs.{Link, editing, reviewing, trying, planning, Chain, link, chainNumbers, HoldsBook, Holds, call, Whole}
 use Rattle.planner.specs.Runs as S
 
 -- ---- a sheet that holds a book
 
-stands : (k : Book) (s : Sheet) → sound k ≡ true → s ≡ sheetOf k → Stands k s
+stands : (k : Book) (s : Sheet) → sound k ≡ true → s ≡ sheetOf k → HoldsBook k s
 stands k s v e = record {
   sound = rw e (sheet-sound k v);
   sheet = e;

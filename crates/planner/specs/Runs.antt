@@ -41,7 +41,7 @@ chainNumbers k (c ∷ cs) (r ∷ rs) = replyNumbers k r ∷ chainNumbers (next k
 -- ---- what is claimed
 
 -- the sheet s holds the book k, on which all claims about reviews, trials and planning hold
-pub record Stands (k : Book) (s : Sheet) : Type 0 where
+pub record HoldsBook (k : Book) (s : Sheet) : Type 0 where
   pub sound : Sound s
   pub sheet : s ≡ sheetOf k
   pub book : bookOf s ≡ k
@@ -49,8 +49,8 @@ pub record Stands (k : Book) (s : Sheet) : Type 0 where
 
 -- before each call the sheet holds the book, the reply is the book's answer, and the sheet after it holds the book after it
 pub data Holds : Book → Sheet → List Call → List Reply → Sheet → Type 0 where
-  end : {k : Book} {s : Sheet} → Stands k s → Holds k s [] [] s
-  call : {k : Book} {s t u : Sheet} {c : Call} {r : Reply} {cs : List Call} {rs : List Reply} → Stands k s → Link s c r t
+  end : {k : Book} {s : Sheet} → HoldsBook k s → Holds k s [] [] s
+  call : {k : Book} {s t u : Sheet} {c : Call} {r : Reply} {cs : List Call} {rs : List Reply} → HoldsBook k s → Link s c r t
       → replyNumbers k r ≡ answerNumbers (answer k c) → Holds (next k c) t cs rs u → Holds k s (c ∷ cs) (r ∷ rs) u
 
 -- demand 3 of a run from the bytes of a file: the book that they say, what holds at each call, the sheet at the end, and all replies

@@ -16,13 +16,13 @@ use Rattle.theory.proofs.Valid.{Valid, Permitted}
 use Rattle.theory.proofs.Makespan.{makespan-ge}
 use Rattle.theory.proofs.Heights.{permitted-partial}
 use Rattle.theory.proofs.Ending.{trial-lifts, trial-pushes}
-use Rattle.theory.proofs.Trial.{Shows, Outcome, passes, fails, outcome, trial-permitted}
+use Rattle.theory.proofs.Trial.{ShowsLate, Outcome, passes, fails, outcome, trial-permitted}
 use Rattle.theory.proofs.Quiet.{pass-no-later}
 
 -- what the search knows of f, kept as f + 1: no trial has failed, or level f showed its group
 pub data Showing (I : Instance) : ℕ → List ℕ → Type 0 where
   unfailed : Showing I 0 []
-  showed : (f : ℕ) (g : List ℕ) → Shows I f g → Showing I (suc f) g
+  showed : (f : ℕ) (g : List ℕ) → ShowsLate I f g → Showing I (suc f) g
 
 -- the counts shown with a level: none where it is the standing one, which no trial gave, and otherwise those that its trial made
 pub data Counts (I : Instance) (x : Assignment) : ℕ → ℕ → ℕ → Type 0 where

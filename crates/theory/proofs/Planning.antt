@@ -23,7 +23,7 @@ use Rattle.theory.proofs.Valid.{Valid, Permitted}
 use Rattle.theory.proofs.Makespan.{makespan-le, longest-some, longest-makespan}
 use Rattle.theory.proofs.Settling.{settle-permitted, settle-equilibrium, settle-moves, settle-no-later}
 use Rattle.theory.proofs.Confined.{ceil-gt, share-makespan}
-use Rattle.theory.proofs.Trial.{Shows, shows-late}
+use Rattle.theory.proofs.Trial.{ShowsLate, shows-late}
 use Rattle.theory.proofs.Balancing.{Showing, unfailed, showed, Counts, SearchFound, balance-found}
 
 -- ---- the lower bound
@@ -143,7 +143,7 @@ module _ (I : Instance) (x : Assignment) (v : Valid I) (w : Permitted I x) where
     plan-bound-below y z = rw plan-bound (below plan-showing y z)
 
     -- a failed level's group shows 2 more than it
-    share-gt : (f : ℕ) (g : List ℕ) → Shows I f g → suc f < share I g
+    share-gt : (f : ℕ) (g : List ℕ) → ShowsLate I f g → suc f < share I g
     unfolding share
     share-gt f g h = ceil-gt (confined I g) (suc f) (length g) (h .some) (omega (arith, h .confines, longest-pos))
 

@@ -30,13 +30,13 @@ use Rattle.theory.proofs.Rested.{Crowded, dark-crowded, stuck-crowded, 
 -- ---- what a group shows at level a
 
 -- A group that holds no underloaded machine, and confines so many minutes that no permitted assignment ends before a + 2.
-pub record Shows (I : Instance) (a : ℕ) (g : List ℕ) : Type 0 where
+pub record ShowsLate (I : Instance) (a : ℕ) (g : List ℕ) : Type 0 where
   pub group : IsGroup I g
   pub some : 0 < length g
   pub confines : suc a * length g + longest I ≤ confined I g
 
 -- with a job on the instance, every permitted assignment finishes at a + 2 or later
-pub shows-late : (I : Instance) (a : ℕ) (g : List ℕ) → Shows I a g → 0 < longest I → (y : Assignment) → Permitted I y → a + 2 ≤ makespan I y
+pub shows-late : (I : Instance) (a : ℕ) (g : List ℕ) → ShowsLate I a g → 0 < longest I → (y : Assignment) → Permitted I y → a + 2 ≤ makespan I y
 shows-late I a g h l y w =
     elim (decLe (a + 2) (makespan I y)) [
       | yes r ↦ r
@@ -103,13 +103,13 @@ module _ (I : Instance) (x : Assignment) (v : Valid I) (w : Permitted I x) (a : 
 
   pub record Fails (s : State) (g : List ℕ) : Type 0 where
     pub over : Some (I .m) (λ i. overloaded I (atLevel I a) s i)
-    pub shows : Shows I a g
+    pub shows : ShowsLate I a g
     pub heavy : (j : ℕ) → mem j g ≡ true → a < load I (s .assignment) j
     pub described : Describes s g
 
   -- a closed group without an underloaded machine and with an overloaded one
   shows-of : (s : State) (g : List ℕ) (i : ℕ) → Crowded I (atLevel I a) (s .assignment) g → mem i g ≡ true → overloaded I (atLevel I a) s i ≡ true
-      → Shows I a g
+      → ShowsLate I a g
   unfolding atLevel
   shows-of s g i c e o =
       let r = c .group in

@@ -10,7 +10,7 @@ use Rattle.rules.specs.Journal.{callAt, callLine}
 use Rattle.sheet.specs.declared.read.Field.{Field}
 use Rattle.sheet.proofs.Lines.{NumberRead, FieldSays, field-says, end-missing, end-other, end-there, next-at}
 use Rattle.journal.specs.Entry.{entryOf}
-use Rattle.journal.proofs.Calls.{call-leaves, Given, given, ending-is, then-faulty}
+use Rattle.journal.proofs.Calls.{call-leaves, EntryRead, given, ending-is, then-faulty}
 use Rattle.journal.proofs.entry.entry_at.Statement.{statement}
 use Rattle.journal.proofs.entry.entry_at.Tie as tie
 
@@ -47,7 +47,7 @@ kind-known c = c .before .before
 abbrev text2 : tie.Else1 → List ℕ
 text2 c = text (start1 (kind-known c))
 
-there : (c : tie.Else1) → Given (text2 c) (start1 (kind-known c) .args .at + 6) 0 (callAt (kind-of (kind-known c)) (rest (kind-known c))) (c .before .call-at .result)
+there : (c : tie.Else1) → EntryRead (text2 c) (start1 (kind-known c) .args .at + 6) 0 (callAt (kind-of (kind-known c)) (rest (kind-known c))) (c .before .call-at .result)
 there c =
     given (text2 c) (start1 (kind-known c) .args .at + 6) 0 _ _ (kind-read (kind-known c) .room)
     (call-leaves (kind-of (kind-known c)) (rest (kind-known c))) (c .before .call-at .ensures) (c .if1 .left)
