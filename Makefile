@@ -13,9 +13,8 @@ BIN = $(DESTDIR)$(PREFIX)/bin
 .PHONY: all test install uninstall
 
 all:
-	rt staticlib listing
-	rt staticlib journal
-	bash scripts/library.sh
+	rt staticlib host
+	cp -f target/staticlib/libhost.a target/staticlib/libbankplan.a
 	rt check bankplan bankrun
 
 test:

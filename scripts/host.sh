@@ -1,6 +1,6 @@
 #!/usr/bin/env bash
 # The static library from C: builds examples/host.c and tests/c/boundary.c against it in a temporary folder, runs the one on the stored
-# files and on bad ones, and the other. Needs gcc, and target/staticlib with what `rt staticlib journal` and `rt staticlib listing` write.
+# files and on bad ones, and the other. Needs gcc, and target/staticlib/libbankplan.a, which `make` builds.
 set -euo pipefail
 cd "$(dirname "$0")/.."
 
@@ -10,7 +10,7 @@ fail() {
 }
 
 command -v gcc >/dev/null 2>&1 || fail "the command gcc is missing"
-bash scripts/library.sh
+[ -f target/staticlib/libbankplan.a ] || fail "target/staticlib/libbankplan.a is missing: run make first"
 
 work=$(mktemp -d)
 trap 'rm -rf "$work"' EXIT

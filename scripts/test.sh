@@ -41,8 +41,8 @@ verdict=$(tail -n 1 "$log")
 echo "== the static library; beside it the tests in Rust that need none"
 (cd tests && cargo test --offline --quiet -p second -p against) &
 beside=$!
-rt staticlib listing
-rt staticlib journal
+rt staticlib host
+cp -f target/staticlib/libhost.a target/staticlib/libbankplan.a
 wait "$beside"
 
 echo "== a host in C, and the other tests in Rust"

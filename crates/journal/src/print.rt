@@ -4,7 +4,7 @@ ghost use mathlib.Core.Path.{_≡_};
 ghost use lib.ListN.{length, take};
 ghost use Rattle.rules.specs.Journal.{runHost};
 ghost use Rattle.journal.specs.Running.{printedOf};
-use crate::run::bankplan_run;
+use crate::run::run_into;
 use listing::text::put_refusal;
 
 // Makes the calls of a journal on a sheet, and writes their answers at the front of `out`, or one line with the refusal's number and
@@ -15,7 +15,7 @@ pub fn print(sheet: &[u8], journal: &[u8], out: &mut [u8]) -> usize
     ensures { λ r. ⌜ take r (now (out .exit))
         ≡ printedOf (runHost (now (sheet .entry)) (now (journal .entry)) (now (out .entry))) ⌝ }
 {
-    let r = bankplan_run(sheet, journal, out);
+    let r = run_into(sheet, journal, out);
     let number = r.refusal;
     if number == 0 {
         return r.length;

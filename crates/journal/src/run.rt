@@ -96,12 +96,9 @@ fn run_on(sheet: Sheet, journal: &[u8], out: &mut [u8]) -> Hosted
 }
 
 // Reads a sheet of any bytes, makes the calls of a journal of any bytes on it, one after the other, and writes their answers at the
-// front of `answers`. A refusal of the sheet comes before one of the journal, and both before 9; the journal's is 19, with its line.
-// No refusal writes anything; bytes past the answers stay. To C each slice is a pointer and a length:
-//   Hosted bankplan_run(const uint8_t *sheet, size_t sheet_length, const uint8_t *journal, size_t journal_length,
-//                    uint8_t *answers, size_t answers_length);
-#[no_mangle]
-pub extern "C" fn bankplan_run(sheet: &[u8], journal: &[u8], answers: &mut [u8]) -> Hosted
+// front of `answers`. A refusal of the sheet comes before one of the journal, and both before 9; the journal's is 19, with its line. No
+// refusal writes anything; bytes past the answers stay.
+pub fn run_into(sheet: &[u8], journal: &[u8], answers: &mut [u8]) -> Hosted
     ensures { λ r. ⌜ hostedOf r (now (answers .exit)) ≡ runHost (now (sheet .entry)) (now (journal .entry)) (now (answers .entry)) ⌝ }
 {
     let r = read(sheet);

@@ -79,10 +79,8 @@ fn list_into(sheet: Sheet, out: &mut [u8]) -> Hosted
 }
 
 // Reads a sheet of any bytes, plans it and writes the listing at the front of `listing`. A refusal of reading comes before 9, and
-// no refusal writes anything; bytes past the listing stay. To C each slice is a pointer and a length:
-//   Hosted bankplan_plan(const uint8_t *sheet, size_t sheet_length, uint8_t *listing, size_t listing_length);
-#[no_mangle]
-pub extern "C" fn bankplan_plan(sheet: &[u8], listing: &mut [u8]) -> Hosted
+// no refusal writes anything; bytes past the listing stay.
+pub fn plan_into(sheet: &[u8], listing: &mut [u8]) -> Hosted
     ensures { λ r. ⌜ hostedOf r (now (listing .exit)) ≡ host (now (sheet .entry)) (now (listing .entry)) ⌝ }
 {
     let r = read(sheet);

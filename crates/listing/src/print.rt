@@ -4,7 +4,7 @@ ghost use Prim.Native.Nat.{_≤_};
 ghost use lib.ListN.{length};
 ghost use Rattle.rules.specs.Listing.{program};
 ghost use Rattle.listing.specs.Text.{atFront};
-use crate::host::bankplan_plan;
+use crate::host::plan_into;
 use crate::text::put_refusal;
 
 // Plans a sheet of any bytes and writes its listing at the front of `out`, or one line with the refusal's number and line. The
@@ -15,7 +15,7 @@ pub fn print(sheet: &[u8], out: &mut [u8]) -> usize
     ensures { λ r. ⌜ r ≤ 3994 ⌝ }
     ensures { λ _. ⌜ now (out .exit) ≡ atFront (program (now (sheet .entry))) (now (out .entry)) ⌝ }
 {
-    let h = bankplan_plan(sheet, out);
+    let h = plan_into(sheet, out);
     let number = h.refusal;
     if number == 0 {
         return h.length;

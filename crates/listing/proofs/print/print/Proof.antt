@@ -8,14 +8,14 @@ use Rattle.listing.proofs.print.print.Tie as tie
 -- the sheet was refused
 unlisted : (c : tie.Else1)
     → RefusalPrinted (c .before .before .before .before .before .before .before .args .sheet .now)
-    (c .before .before .before .before .before .before .before .args .out .now) (c .before .before .before .bankplan-plan .result)
-    (c .before .before .before .bankplan-plan .last .1 .0)
+    (c .before .before .before .before .before .before .before .args .out .now) (c .before .before .before .plan-into .result)
+    (c .before .before .before .plan-into .last .1 .0)
 unlisted c =
-    refusal-told _ _ _ _ (c .before .before .before .bankplan-plan .ensures)
+    refusal-told _ _ _ _ (c .before .before .before .plan-into .ensures)
     (c .before .before .before .before .before .before .before .pre) (λ z. omega arith)
 
-bankplan-plan-requires : tie.Need-bankplan-plan-requires
-bankplan-plan-requires c κs = search needs
+plan-into-requires : tie.Need-plan-into-requires
+plan-into-requires c κs = search needs
 
 same-length : tie.Need-same-length
 same-length c = search needs
@@ -23,7 +23,7 @@ same-length c = search needs
 returns : tie.Need-returns
 returns c =
     let start = c .before .before .before .before .before .before .before in
-    let l = is-listed _ _ _ _ (c .before .before .before .bankplan-plan .ensures) (start .pre) (omega arith) in
+    let l = is-listed _ _ _ _ (c .before .before .before .plan-into .ensures) (start .pre) (omega arith) in
     (l .count, (omega (arith, l .count, program-short (start .args .sheet .now)), l .text))
 
 cast-put-refusal : tie.Need-cast-put-refusal
@@ -44,7 +44,7 @@ pub print-spec : {M : Type 1} → statement M
 print-spec =
     tie.close
     (tie.spec
-    bankplan-plan-requires
+    plan-into-requires
     same-length
     returns
     cast-put-refusal

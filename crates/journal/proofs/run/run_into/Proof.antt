@@ -4,8 +4,8 @@ use Rattle.sheet.proofs.PartsRead.{some-refusal}
 use Rattle.sheet.proofs.Accepted.{Accepted, is-accepted, is-refused}
 use Rattle.journal.proofs.Hosting.{run-refused, run-ran}
 use borrow.Author.Needs.{needs}
-use Rattle.journal.proofs.run.bankplan_run.Statement.{statement}
-use Rattle.journal.proofs.run.bankplan_run.Tie as tie
+use Rattle.journal.proofs.run.run_into.Statement.{statement}
+use Rattle.journal.proofs.run.run_into.Tie as tie
 
 -- what was read
 taken : (c : tie.After-enum-told) → Accepted (c .before .before .before .before .before .before .args .sheet .now) (c .before .before .read .result)
@@ -34,8 +34,8 @@ returns-2 : tie.Need-returns-2
 returns-2 c =
     c .before .before .run-on .ensures ∙ run-ran _ (c .before .before .before .before .before .before .before .before .before .before .before .args .journal .now) _ _ (taken (c .before .before .before .before .before) .book)
 
-pub bankplan-run-spec : {M : Type 1} → statement M
-bankplan-run-spec =
+pub run-into-spec : {M : Type 1} → statement M
+run-into-spec =
     tie.close
     (tie.spec
     read-requires

@@ -4,8 +4,8 @@ use Rattle.sheet.proofs.PartsRead.{some-refusal}
 use Rattle.sheet.proofs.Accepted.{Accepted, is-accepted, Refused, is-refused}
 use Rattle.listing.proofs.Hosting.{host-refused, host-listed}
 use borrow.Author.Needs.{needs}
-use Rattle.listing.proofs.host.bankplan_plan.Statement.{statement}
-use Rattle.listing.proofs.host.bankplan_plan.Tie as tie
+use Rattle.listing.proofs.host.plan_into.Statement.{statement}
+use Rattle.listing.proofs.host.plan_into.Tie as tie
 
 -- what was refused, and what was read
 refused : (c : tie.At-match-keys2) → Refused (c .before .before .before .before .args .sheet .now) (c .before .read .result)
@@ -35,8 +35,8 @@ same-length c = search needs
 returns-2 : tie.Need-returns-2
 returns-2 c = c .before .before .list-into .ensures ∙ host-listed _ _ _ (taken (c .before .before .before .before .before) .book)
 
-pub bankplan-plan-spec : {M : Type 1} → statement M
-bankplan-plan-spec =
+pub plan-into-spec : {M : Type 1} → statement M
+plan-into-spec =
     tie.close
     (tie.spec
     read-requires

@@ -1,0 +1,27 @@
+// The calls for hosts in C. To C each slice is a pointer and a length.
+ghost use mathlib.Core.Path.{_≡_};
+ghost use Rattle.rules.specs.Listing.{host};
+ghost use Rattle.rules.specs.Journal.{runHost};
+ghost use Rattle.listing.specs.Host.{hostedOf};
+use journal::run::run_into;
+use listing::host::Hosted;
+use listing::host::plan_into;
+
+// Plans a sheet of any bytes and writes its listing:
+//   Hosted bankplan_plan(const uint8_t *sheet, size_t sheet_length, uint8_t *listing, size_t listing_length);
+#[no_mangle]
+pub extern "C" fn bankplan_plan(sheet: &[u8], listing: &mut [u8]) -> Hosted
+    ensures { λ r. ⌜ hostedOf r (now (listing .exit)) ≡ host (now (sheet .entry)) (now (listing .entry)) ⌝ }
+{
+    plan_into(sheet, listing)
+}
+
+// Makes the calls of a journal of any bytes on a sheet of any bytes, and writes their answers:
+//   Hosted bankplan_run(const uint8_t *sheet, size_t sheet_length, const uint8_t *journal, size_t journal_length,
+//                    uint8_t *answers, size_t answers_length);
+#[no_mangle]
+pub extern "C" fn bankplan_run(sheet: &[u8], journal: &[u8], answers: &mut [u8]) -> Hosted
+    ensures { λ r. ⌜ hostedOf r (now (answers .exit)) ≡ runHost (now (sheet .entry)) (now (journal .entry)) (now (answers .entry)) ⌝ }
+{
+    run_into(sheet, journal, answers)
+}
