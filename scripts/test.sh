@@ -31,15 +31,25 @@ echo "== documents, and edits outside this command"
 bash scripts/demands.sh
 bash scripts/alive.sh
 
-echo "== proofs, must-fail edits and programs"
 log=$(mktemp)
-trap 'rm -f "$log"' EXIT
+rust=$(mktemp)
+trap 'kill "$beside" 2>/dev/null || true; rm -f "$log" "$rust"' EXIT
+(cd tests && cargo test --offline --quiet -p second && cargo test --offline --quiet --no-run -p against) >"$rust" 2>&1 &
+beside=$!
+
+echo "== proofs, must-fail edits and programs; beside them the second planner's own tests"
 rt ci 2>&1 | tee "$log"
 verdict=$(tail -n 1 "$log")
 [[ $verdict =~ ^[1-9][0-9]*\ passed,\ 0\ failed$ ]] || missing "rt ci's verdict; its last line was: $verdict"
 
-echo "== the static library; beside it the tests in Rust that need none"
-(cd tests && cargo test --offline --quiet -p second -p against) &
+echo "== the second planner's own tests"
+status=0
+wait "$beside" || status=$?
+cat "$rust"
+[ "$status" = 0 ] || exit 1
+
+echo "== the static library; beside it the planner against the second one"
+(cd tests && cargo test --offline --quiet -p against) &
 beside=$!
 rt staticlib host
 cp -f target/staticlib/libhost.a target/staticlib/libbankplan.a
