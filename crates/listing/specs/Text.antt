@@ -7,6 +7,7 @@ use Rattle.rules.specs.Fold.{_and_, pick, at}
 use Rattle.rules.specs.Render.{line}
 use Rattle.rules.specs.Plan.{Plan}
 use Rattle.rules.specs.Listing.{firstLine}
+use Rattle.listing.specs.declared.text.Figures.{Figures}
 
 -- the column before the last w of a number, where rest is what stands before those
 abbrev pub column : ℕ → ℕ → ℕ
@@ -24,6 +25,9 @@ figures makespan bound level lifts pushes moves = record {
   group = [];
   assignment = [];
 }
+
+abbrev pub figuresOf : Figures → Plan
+figuresOf f = figures (f .makespan) (f .bound) (f .level) (f .lifts) (f .pushes) (f .moves)
 
 -- a line for each of the first n batches: number, place, length
 unfoldable pub rowsTo : List ℕ → List ℕ → ℕ → List ℕ

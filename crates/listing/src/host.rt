@@ -4,6 +4,7 @@ ghost use Rattle.rules.specs.Listing.{host};
 ghost use Rattle.sheet.specs.Represent.{Sound, bookOf};
 ghost use Rattle.sheet.specs.Answers.{numberOf};
 ghost use Rattle.listing.specs.Host.{hostedOf, listedInto};
+use crate::text::Figures;
 use crate::text::listing_length;
 use crate::text::put_listing;
 use planner::calls::plan;
@@ -57,20 +58,15 @@ fn list_into(sheet: Sheet, out: &mut [u8]) -> Hosted
     let after = p.sheet;
     let places = after.places();
     let group = p.group;
-    let length = put_listing(
-        out,
-        p.makespan,
-        p.bound,
-        p.level,
-        p.lifts,
-        p.pushes,
-        p.moves,
-        size,
-        group,
-        n,
-        &minutes,
-        &places,
-    );
+    let f = Figures {
+        makespan: p.makespan,
+        bound: p.bound,
+        level: p.level,
+        lifts: p.lifts,
+        pushes: p.pushes,
+        moves: p.moves,
+    };
+    let length = put_listing(out, f, size, group, n, &minutes, &places);
     Hosted {
         refusal: 0,
         line: 0,

@@ -6,7 +6,17 @@ ghost use lib.ListN.{length, take, drop};
 ghost use lib.Seq.{paste};
 ghost use Rattle.rules.specs.Render.{columns, fields, line};
 ghost use Rattle.rules.specs.Listing.{firstLine};
-ghost use Rattle.listing.specs.Text.{column, figures, rowsTo, listingText, atFront};
+ghost use Rattle.listing.specs.Text.{column, figuresOf, rowsTo, listingText, atFront};
+
+// A plan's numbers, as the listing's first line has them.
+pub(crate) struct Figures {
+    pub(crate) makespan: u32,
+    pub(crate) bound: u32,
+    pub(crate) level: u32,
+    pub(crate) lifts: u32,
+    pub(crate) pushes: u32,
+    pub(crate) moves: u64,
+}
 
 // A blank, or the last digit of `rest`, the part of a number before its last `done` columns.
 fn next_column(done: usize, rest: u64) -> u8
@@ -39,7 +49,7 @@ pub fn put_columns(out: &mut [u8], at: usize, width: usize, v: u64)
 }
 
 // Writes a field: six columns.
-pub fn put_field(out: &mut [u8], at: usize, v: u32)
+fn put_field(out: &mut [u8], at: usize, v: u32)
     requires { ⌜ (at + 6 ≤ length (now out)) × (v < 1000000) ⌝ }
     ensures { λ _. ⌜ now (out .exit) ≡ paste (now (out .entry)) at (columns 6 v) 6 ⌝ }
 {
@@ -82,24 +92,14 @@ fn put_row(out: &mut [u8], at: usize, a: u32, b: u32, c: u32)
 }
 
 // Writes the listing's first line.
-pub fn put_first_line(
-    out: &mut [u8],
-    at: usize,
-    makespan: u32,
-    bound: u32,
-    level: u32,
-    lifts: u32,
-    pushes: u32,
-    moves: u64,
-)
-    requires { ⌜ (at + 43 ≤ length (now out)) × (makespan < 1000000) × (bound < 1000000) × (level < 1000000)
-        × (lifts < 1000000) × (pushes < 1000000) × (moves < 10 ^ 12) ⌝ }
-    ensures { λ _. ⌜ now (out .exit)
-        ≡ paste (now (out .entry)) at (firstLine (figures makespan bound level lifts pushes moves)) 43 ⌝ }
+fn put_first_line(out: &mut [u8], at: usize, f: Figures)
+    requires { ⌜ (at + 43 ≤ length (now out)) × (f .makespan < 1000000) × (f .bound < 1000000) × (f .level < 1000000)
+        × (f .lifts < 1000000) × (f .pushes < 1000000) × (f .moves < 10 ^ 12) ⌝ }
+    ensures { λ _. ⌜ now (out .exit) ≡ paste (now (out .entry)) at (firstLine (figuresOf f)) 43 ⌝ }
 {
-    put_three(out, at, makespan, bound, level);
-    put_two(out, at + 18, lifts, pushes);
-    put_columns(out, at + 30, 12, moves);
+    put_three(out, at, f.makespan, f.bound, f.level);
+    put_two(out, at + 18, f.lifts, f.pushes);
+    put_columns(out, at + 30, 12, f.moves);
     put_end(out, at + 42);
 }
 
@@ -111,7 +111,7 @@ fn wide(x: u8) -> u32
 }
 
 // Writes the listing's second line: a group's size, and its numbers, the first `size` of `group`.
-pub fn put_group_line(out: &mut [u8], at: usize, size: usize, group: [u8; 24])
+fn put_group_line(out: &mut [u8], at: usize, size: usize, group: [u8; 24])
     requires { ⌜ (at + (6 * (size + 1) + 1) ≤ length (now out)) × (size ≤ 24) ⌝ }
     ensures { λ _. ⌜ now (out .exit)
         ≡ paste (now (out .entry)) at (line (size ∷ take size group)) (6 * (size + 1) + 1) ⌝ }
@@ -128,7 +128,7 @@ pub fn put_group_line(out: &mut [u8], at: usize, size: usize, group: [u8; 24])
 }
 
 // Writes a line for each of the first `n` batches: number, place, length.
-pub fn put_batch_lines(out: &mut [u8], at: usize, n: usize, minutes: &[u16], places: &[u8])
+fn put_batch_lines(out: &mut [u8], at: usize, n: usize, minutes: &[u16], places: &[u8])
     requires { ⌜ (at + 19 * n ≤ length (now out)) × (n ≤ 200) × (n ≤ length (now minutes)) × (n ≤ length (now places)) ⌝ }
     ensures { λ _. ⌜ now (out .exit)
         ≡ paste (now (out .entry)) at (rowsTo (now (minutes .entry)) (now (places .entry)) n) (19 * n) ⌝ }
@@ -143,7 +143,7 @@ pub fn put_batch_lines(out: &mut [u8], at: usize, n: usize, minutes: &[u16], pla
 }
 
 // How many bytes a listing has.
-pub fn listing_length(size: usize, n: usize) -> usize
+pub(crate) fn listing_length(size: usize, n: usize) -> usize
     requires { ⌜ (size ≤ 24) × (n ≤ 200) ⌝ }
     ensures { λ r. ⌜ r ≡ 43 + (6 * (size + 1) + 1) + 19 * n ⌝ }
 {
@@ -160,29 +160,23 @@ pub fn put_refusal(out: &mut [u8], number: u32, row: u32)
 }
 
 // Writes the whole listing at the front of `out`, and returns how many bytes it has.
-pub fn put_listing(
+pub(crate) fn put_listing(
     out: &mut [u8],
-    makespan: u32,
-    bound: u32,
-    level: u32,
-    lifts: u32,
-    pushes: u32,
-    moves: u64,
+    f: Figures,
     size: usize,
     group: [u8; 24],
     n: usize,
     minutes: &[u16],
     places: &[u8],
 ) -> usize
-    requires { ⌜ (43 + (6 * (size + 1) + 1) + 19 * n ≤ length (now out)) × (makespan < 1000000) × (bound < 1000000)
-        × (level < 1000000) × (lifts < 1000000) × (pushes < 1000000) × (moves < 10 ^ 12) × (size ≤ 24)
+    requires { ⌜ (43 + (6 * (size + 1) + 1) + 19 * n ≤ length (now out)) × (f .makespan < 1000000) × (f .bound < 1000000)
+        × (f .level < 1000000) × (f .lifts < 1000000) × (f .pushes < 1000000) × (f .moves < 10 ^ 12) × (size ≤ 24)
         × (n ≤ 200) × (n ≤ length (now minutes)) × (n ≤ length (now places)) ⌝ }
-    ensures { λ r. ⌜ r ≡ length (listingText (figures makespan bound level lifts pushes moves) size group n
-        (now (minutes .entry)) (now (places .entry))) ⌝ }
-    ensures { λ _. ⌜ now (out .exit) ≡ atFront (listingText (figures makespan bound level lifts pushes moves) size group n
-        (now (minutes .entry)) (now (places .entry))) (now (out .entry)) ⌝ }
+    ensures { λ r. ⌜ r ≡ length (listingText (figuresOf f) size group n (now (minutes .entry)) (now (places .entry))) ⌝ }
+    ensures { λ _. ⌜ now (out .exit)
+        ≡ atFront (listingText (figuresOf f) size group n (now (minutes .entry)) (now (places .entry))) (now (out .entry)) ⌝ }
 {
-    put_first_line(out, 0, makespan, bound, level, lifts, pushes, moves);
+    put_first_line(out, 0, f);
     put_group_line(out, 43, size, group);
     put_batch_lines(out, 43 + (6 * (size + 1) + 1), n, minutes, places);
     listing_length(size, n)

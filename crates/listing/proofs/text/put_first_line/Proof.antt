@@ -41,16 +41,16 @@ returns c =
     let two = three .before .before .before .before in
     let one = two .before .before .before .before in
     let a = one .before .before .before .args in
-    let l : List ℕ = a .makespan ∷ a .bound ∷ a .level ∷ [] in
-    let r : List ℕ = a .lifts ∷ a .pushes ∷ [] in
+    let l : List ℕ = a .f .makespan ∷ a .f .bound ∷ a .f .level ∷ [] in
+    let r : List ℕ = a .f .lifts ∷ a .f .pushes ∷ [] in
     let w = wrote-one (a .out .now) (a .at) (fields l) 18 (fields-length l) (omega arith) (one .put-three .ensures) in
     let x = wrote-more (fields r) (a .at + 18) 12 30 w refl refl (fields-length r) (omega arith) (two .put-two .ensures) in
     let y =
-    wrote-more (columns 12 (a .moves)) (a .at + 30) 12 42 x refl refl (columns-length 12 (a .moves)) (omega arith)
+    wrote-more (columns 12 (a .f .moves)) (a .at + 30) 12 42 x refl refl (columns-length 12 (a .f .moves)) (omega arith)
     (three .put-columns .ensures) in
     wrote-as
     (wrote-more (10 ∷ []) (a .at + 42) 1 43 y refl refl refl (omega arith) (four .put-end .ensures))
-    (ap (λ (s : List ℕ). s ++ columns 12 (a .moves) ++ (10 ∷ [])) (sym (fields-append l r))) .text
+    (ap (λ (s : List ℕ). s ++ columns 12 (a .f .moves) ++ (10 ∷ [])) (sym (fields-append l r))) .text
 
 pub put-first-line-spec : {M : Type 1} → statement M
 put-first-line-spec =

@@ -8,7 +8,7 @@ use lib.Seq.{length-take-le}
 use Rattle.rules.specs.Render.{line}
 use Rattle.rules.specs.Plan.{Plan}
 use Rattle.rules.specs.Listing.{firstLine}
-use Rattle.listing.specs.Text.{figures, rowsTo, listingText}
+use Rattle.listing.specs.Text.{figuresOf, rowsTo, listingText}
 use Rattle.listing.proofs.Pasted.{wrote-one, wrote-more, wrote-start}
 use Rattle.listing.proofs.Fields.{line-length}
 use Rattle.listing.proofs.Lines.{first-line-length, rows-length, listing-text-length}
@@ -50,10 +50,10 @@ returns c =
     let one = two .before .before .before .before in
     let st = one .before .before .before .before .before in
     let a = st .args in
-    let p : Plan = figures (a .makespan) (a .bound) (a .level) (a .lifts) (a .pushes) (a .moves) in
+    let p : Plan = figuresOf (a .f) in
     let head : List ℕ = a .size ∷ take (a .size) (a .group) in
     let rows : List ℕ = rowsTo (a .minutes .now) (a .places .now) (a .n) in
-    let long : length (a .group) ≡ 24 = st .good .1 .1 .1 .1 .1 .1 .1 .1 .0 .1 .0 .1 in
+    let long : length (a .group) ≡ 24 = st .good .1 .1 .1 .0 .1 .0 .1 in
     let room : a .size ≤ length (a .group) = omega arith in
     let wide : length (line head) ≡ 6 * (a .size + 1) + 1 =
     line-length head ∙ omega (arith, length-take-le (a .size) (a .group) room) in
