@@ -9,13 +9,13 @@ use lib.ListN.{length, drop, length-drop}
 use lib.Seq.{drop-drop}
 use Rattle.rules.specs.Fold.{pick}
 use Rattle.rules.specs.Refusal.{Refusal, malformed}
-use Rattle.rules.specs.Field.{Field, value, fault, field}
+use Rattle.rules.specs.Field.{Field, value, blank, fault, field}
 use Rattle.rules.specs.Read.{Part, gives, refuses, andThen, orRefuse, fieldPart, numberAt, endOfLine}
 use Rattle.rules.specs.Edit.{add, withdraw, requalify, move}
 use Rattle.rules.specs.Run.{Call, editing, reviewing, trying, planning}
 use Rattle.rules.specs.Journal.{numbersAt, listAt, addAt, withdrawAt, requalifyAt, moveAt, trialAt, callAt, callLine}
 use Rattle.theory.proofs.Logic.{conflict}
-use Rattle.sheet.proofs.Lines.{six}
+use Rattle.fields.proofs.Reading.{six}
 use Rattle.journal.specs.declared.entry.Entry.{Entry}
 use Rattle.journal.specs.declared.entry.KeptList.{KeptList}
 use Rattle.journal.specs.Entry.{entryWith, entryOf, noEntry, entryAs, keptAs, oneNumber, twoNumbers, numberAndList, numbersAs}
@@ -54,6 +54,7 @@ number-leaves r = from (field r) refl
   where
     from : (f : Field) → field r ≡ f → Leaves 6 r (fieldPart f (drop 6 r))
     from (value v) e = give v 6 (omega arith) (six r v e)
+    from blank e = refuse malformed
     from fault e = refuse malformed
 
 -- a part that takes nothing

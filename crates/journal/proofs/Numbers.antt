@@ -15,7 +15,7 @@ use Rattle.rules.specs.Journal.{numbersAt}
 use Rattle.theory.proofs.Logic.{byTest}
 use Rattle.sheet.specs.Represent.{padded}
 use Rattle.sheet.proofs.Padded.{set-append, length-padded}
-use Rattle.sheet.proofs.Lines.{next-at}
+use Rattle.fields.proofs.Reading.{next-at}
 use Rattle.journal.specs.declared.entry.KeptList.{KeptList}
 use Rattle.journal.specs.Entry.{noKept, keptAs}
 

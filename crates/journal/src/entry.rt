@@ -7,8 +7,9 @@ ghost use lib.Dec.{ltb};
 ghost use Rattle.rules.specs.Fold.{pick};
 ghost use Rattle.rules.specs.Journal.{numbersAt, listAt, callAt, callLine, journal};
 ghost use Rattle.journal.specs.Entry.{entryWith, noEntry, entryAs, noKept, keptAs, oneNumber, twoNumbers, numberAndList, numbersAs, faultOf};
-use sheet::read::Field;
-use sheet::read::field_at;
+use fields::Field;
+use fields::ends_at;
+use fields::field_at;
 
 // A call's line: the kind, its numbers, the first numbers of its list and how many of them are kept, and where the next line starts.
 pub struct Entry {
@@ -93,7 +94,7 @@ fn numbers_at(s: &[u8], at: usize, count: usize) -> KeptList
     let mut k = 0;
     let mut next = at;
     while k < count {
-        let Field::Value(x) = field_at(&s[next..]) else {
+        let Field::Value(x) = field_at(s, next) else {
             return KeptList::none();
         };
         if k < 25 {
@@ -116,7 +117,7 @@ fn list_at(s: &[u8], at: usize) -> KeptList
     requires { ⌜ at ≤ length (now s) ⌝ }
     ensures { λ r. ⌜ r ≡ keptAs (length (now (s .entry))) (listAt (drop at (now (s .entry)))) ⌝ }
 {
-    let Field::Value(count) = field_at(&s[at..]) else {
+    let Field::Value(count) = field_at(s, at) else {
         return KeptList::none();
     };
     let second = at + 6;
@@ -128,7 +129,7 @@ fn one_number(s: &[u8], at: usize, kind: u8) -> Entry
     requires { ⌜ at ≤ length (now s) ⌝ }
     ensures { λ r. ⌜ r ≡ numbersAs (length (now (s .entry))) (oneNumber kind (drop at (now (s .entry)))) ⌝ }
 {
-    let Field::Value(a) = field_at(&s[at..]) else {
+    let Field::Value(a) = field_at(s, at) else {
         return Entry::none();
     };
     Entry::plain(kind, a, 0, at + 6)
@@ -139,11 +140,11 @@ fn two_numbers(s: &[u8], at: usize, kind: u8) -> Entry
     requires { ⌜ at ≤ length (now s) ⌝ }
     ensures { λ r. ⌜ r ≡ numbersAs (length (now (s .entry))) (twoNumbers kind (drop at (now (s .entry)))) ⌝ }
 {
-    let Field::Value(a) = field_at(&s[at..]) else {
+    let Field::Value(a) = field_at(s, at) else {
         return Entry::none();
     };
     let second = at + 6;
-    let Field::Value(b) = field_at(&s[second..]) else {
+    let Field::Value(b) = field_at(s, second) else {
         return Entry::none();
     };
     Entry::plain(kind, a, b, second + 6)
@@ -154,7 +155,7 @@ fn number_and_list(s: &[u8], at: usize, kind: u8) -> Entry
     requires { ⌜ at ≤ length (now s) ⌝ }
     ensures { λ r. ⌜ r ≡ numbersAs (length (now (s .entry))) (numberAndList kind (drop at (now (s .entry)))) ⌝ }
 {
-    let Field::Value(a) = field_at(&s[at..]) else {
+    let Field::Value(a) = field_at(s, at) else {
         return Entry::none();
     };
     let second = at + 6;
@@ -208,7 +209,7 @@ pub fn entry_at(s: &[u8], at: usize) -> Entry
     requires { ⌜ at ≤ length (now s) ⌝ }
     ensures { λ r. ⌜ r ≡ entryAs (length (now (s .entry))) (callLine (drop at (now (s .entry)))) ⌝ }
 {
-    let Field::Value(kind) = field_at(&s[at..]) else {
+    let Field::Value(kind) = field_at(s, at) else {
         return Entry::none();
     };
     let second = at + 6;
@@ -217,10 +218,7 @@ pub fn entry_at(s: &[u8], at: usize) -> Entry
         return Entry::none();
     }
     let end = c.next;
-    if s.len() <= end {
-        return Entry::none();
-    }
-    if s[end] != b'\n' {
+    if !ends_at(s, end) {
         return Entry::none();
     }
     let list = c.list;

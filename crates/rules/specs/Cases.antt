@@ -1,5 +1,5 @@
 -- Document 01, "Cases": P1 to P10 in one table, with one theorem over it. The rows from 11 on are more of document 01's cases
--- and ours: each tells a wrong rule from the right one.
+-- and ours: each tells a wrong rule from the right one. Row 20 is document 02's C-11.
 use Prim.Native.Nat.{ℕ}
 use Prim.Native.String.{String}
 use mathlib.Core.Path.{_≡_, refl}
@@ -8,9 +8,9 @@ use lib.ListN.{replicate}
 use Rattle.rules.specs.Fold.{_and_, _or_, mem, every, sumTo, most, maxTo, orElse, firstTo, anyTo, allTo, lesser, leastTo, greater, greatestTo, thoseTo, listTo}
 use Rattle.rules.specs.Refusal.{malformed, badSize, badLength, badList, badPlace, noBatch, levelAbove}
 use Rattle.rules.specs.Sheet.{Batch, isBatch, goodInstruments, goodMinutes, isInstrument, distinct, goodList, goodBatch, sound}
-use Rattle.rules.specs.Field.{Field, value, fault, digits, loneZero, blanks, field}
-use Rattle.rules.specs.Read.{Reading, accepted, refusedAt, numberAt, endOfLine, headLine, instrumentsAt, batchLine, batchLines, read}
-use Rattle.rules.specs.Render.{columns, fields, renderBatches, render, batchWithinLimits, withinLimits}
+use Rattle.rules.specs.Field.{Field, value, blank, fault, digits, loneZero, blanks, field}
+use Rattle.rules.specs.Read.{Reading, accepted, refusedAt, numberAt, placeAt, endOfLine, headLine, instrumentsAt, batchLine, batchLines, read}
+use Rattle.rules.specs.Render.{columns, fields, Given, numbered, leftBlank, Described, Description, renderBatches, render, batchWithinLimits, withinLimits, described}
 use Rattle.rules.specs.Edit.{add, withdraw, requalify, move, kept, edit}
 use Rattle.rules.specs.Load.{load, makespan, longest, total, elsewhere, improvesAt, improves, review}
 use Rattle.rules.specs.Settle.{mover, target, moved, squares, settleBy, settle}
@@ -21,6 +21,7 @@ use Rattle.rules.specs.LowerBound.{within, confined, share, lowerBound}
 use Rattle.rules.specs.Plan.{plan}
 use Rattle.rules.specs.Run.{Call, editing, reviewing, trying, planning, Answer, refused, done, reviewed, tried, planned, answer, next, answers}
 use Rattle.rules.specs.Listing.{batchListing, listing, program, Hosted, host}
+use Rattle.rules.specs.Journal.{numbersAt, listAt, addAt, withdrawAt, requalifyAt, moveAt, trialAt, callAt, callLine, linesBy, journal, answerLines, runHost}
 use Rattle.rules.specs.Text.{bytes, lines}
 
 -- ---- the sheets
@@ -113,6 +114,16 @@ unsettled =
     ∷ "     2     2     2     1     2"
     ∷ [])
 
+-- a place given as an instrument, as 0 and as blanks
+abbrev threeWays : List ℕ
+threeWays =
+    lines
+    ("     2     3"
+    ∷ "    10     1     2     2     1"
+    ∷ "    20     0     2     2     1"
+    ∷ "    30           2     2     1"
+    ∷ [])
+
 -- ---- what is asked, and what is said
 
 data Ask : Type 0 where
@@ -120,12 +131,16 @@ data Ask : Type 0 where
   fieldOf : String → Ask
   -- a file
   reading : List ℕ → Ask
-  -- a file, written back with its places as given
+  -- a file, written back with its places as numbers
   writing : List ℕ → Ask
+  -- the file of a description
+  rendering : Description → Ask
   -- a file, through the program
   printing : List ℕ → Ask
   -- a file and a buffer, through the host's call
   hosting : List ℕ → List ℕ → Ask
+  -- a file, a journal and a buffer, through the host's call
+  running : List ℕ → List ℕ → List ℕ → Ask
   -- calls in a row, on the sheet of a file
   calling : List ℕ → List Call → Ask
 
@@ -143,15 +158,17 @@ callsOn (accepted k) cs = answered (answers k cs)
 callsOn (refusedAt e j) cs = noSheet
 
 abbrev writtenOf : Reading → Said
-writtenOf (accepted k) = written (render k)
+writtenOf (accepted k) = written (render (described k))
 writtenOf (refusedAt e j) = noSheet
 
 abbrev say : Ask → Said
 say (fieldOf s) = fieldSaid (field (bytes s))
 say (reading s) = readingSaid (read s)
 say (writing s) = writtenOf (read s)
+say (rendering d) = written (render d)
 say (printing s) = printed (program s)
 say (hosting s b) = hosted (host s b)
+say (running s c b) = hosted (runHost s c b)
 say (calling s cs) = callsOn (read s) cs
 
 -- a row: the case's number in document 01, what is asked, and what is to be said
@@ -172,6 +189,9 @@ reviewSaid l f b = reviewed (record { loads = l; makespan = f; improving = b })
 
 abbrev batchOf : ℕ → List ℕ → ℕ → Batch
 batchOf t l p = record { minutes = t; list = l; place = p }
+
+abbrev describedOf : ℕ → Given → List ℕ → Described
+describedOf t p l = record { minutes = t; list = l; place = p }
 
 table : List Row
 table =
@@ -271,6 +291,30 @@ table =
     }))
     ∷ row 19 (hosting [] []) (hosted (record { refusal = 1; line = 1; length = 0; buffer = [] }))
     ∷ row 19 (printing []) (printed (lines ("     1     1" ∷ [])))
+    -- blank: six blanks, in the place alone
+    ∷ row 20 (fieldOf "      ") (fieldSaid blank)
+    ∷ row 20 (fieldOf "     ") (fieldSaid fault)
+    ∷ row 20 (fieldOf "1     ") (fieldSaid fault)
+    ∷ row 20 (reading threeWays)
+    (readingSaid (accepted (record {
+      m = 2;
+      batches = batchOf 10 (2 ∷ 1 ∷ []) 1 ∷ batchOf 20 (2 ∷ 1 ∷ []) 2 ∷ batchOf 30 (2 ∷ 1 ∷ []) 2 ∷ [];
+    })))
+    ∷ row 20 (rendering (record {
+      m = 2;
+      batches =
+          describedOf 10 (numbered 1) (2 ∷ 1 ∷ [])
+          ∷ describedOf 20 (numbered 0) (2 ∷ 1 ∷ [])
+          ∷ describedOf 30 leftBlank (2 ∷ 1 ∷ [])
+          ∷ [];
+    })) (written threeWays)
+    ∷ row 20 (reading (lines ("           0" ∷ []))) (readingSaid (refusedAt malformed 1))
+    ∷ row 20 (reading (lines ("     2      " ∷ []))) (readingSaid (refusedAt malformed 1))
+    ∷ row 20 (reading (lines ("     2     1" ∷ "           1     1     1" ∷ []))) (readingSaid (refusedAt malformed 2))
+    ∷ row 20 (reading (lines ("     2     1" ∷ "    10     1           1" ∷ []))) (readingSaid (refusedAt malformed 2))
+    ∷ row 20 (reading (lines ("     2     1" ∷ "    10     1     2     1      " ∷ []))) (readingSaid (refusedAt malformed 2))
+    ∷ row 20 (running p3 (lines ("     5" ∷ "     4     1      " ∷ [])) (1 ∷ []))
+    (hosted (record { refusal = 19; line = 2; length = 0; buffer = 1 ∷ [] }))
     ∷ []
 
 abbrev asked : List Row → List Said
@@ -281,5 +325,5 @@ said t = map (λ (r : Row). r .says) t
 
 -- the rules say what the table says
 cases : asked table ≡ said table
-unfolding table bytes lines _and_ _or_ mem every sumTo most maxTo orElse firstTo anyTo allTo lesser leastTo greater greatestTo thoseTo listTo isBatch goodInstruments goodMinutes isInstrument distinct goodList goodBatch sound digits loneZero blanks field numberAt endOfLine headLine instrumentsAt batchLine batchLines read columns fields renderBatches render batchWithinLimits withinLimits kept edit load makespan longest total elsewhere improvesAt improves review mover target moved squares settleBy settle atLevel underloaded overloaded unplaced machineArc jobArc liftOver pushOr deed jobDeed machineDeed someUnderloaded actMachine actJob act stepsBy liftBound pushBound endedBy overflows reach reachBy closure group trial searchBy balance within confined share lowerBound plan answer next answers batchListing listing program host
+unfolding table bytes lines _and_ _or_ mem every sumTo most maxTo orElse firstTo anyTo allTo lesser leastTo greater greatestTo thoseTo listTo isBatch goodInstruments goodMinutes isInstrument distinct goodList goodBatch sound digits loneZero blanks field numberAt placeAt endOfLine headLine instrumentsAt batchLine batchLines read columns fields renderBatches render batchWithinLimits withinLimits kept edit load makespan longest total elsewhere improvesAt improves review mover target moved squares settleBy settle atLevel underloaded overloaded unplaced machineArc jobArc liftOver pushOr deed jobDeed machineDeed someUnderloaded actMachine actJob act stepsBy liftBound pushBound endedBy overflows reach reachBy closure group trial searchBy balance within confined share lowerBound plan answer next answers batchListing listing program host numbersAt listAt addAt withdrawAt requalifyAt moveAt trialAt callAt callLine linesBy journal answerLines runHost
 cases = refl

@@ -7,7 +7,7 @@ use lib.Dec.{leb, eqb}
 use Rattle.rules.specs.Fold.{_and_, _or_, mem}
 use Rattle.rules.specs.Refusal.{Refusal, malformed, badSize, badLength, badList, badPlace, number}
 use Rattle.rules.specs.Sheet.{Book, Batch, maxBatches, goodInstruments, goodMinutes, isInstrument, head}
-use Rattle.rules.specs.Field.{Field, value, fault, field, fieldWidth}
+use Rattle.rules.specs.Field.{Field, value, blank, fault, field, fieldWidth}
 
 -- ---- a part of a sheet: what it gives, with the rest of the bytes, or a refusal
 
@@ -25,13 +25,25 @@ abbrev pub orRefuse : {X : Type 0} → Bool → Refusal → Part X → Part X
 orRefuse true e p = p
 orRefuse false e p = refuses e
 
+-- a field's number, or refusal 1
 abbrev pub fieldPart : Field → List ℕ → Part ℕ
 fieldPart (value v) r = gives v r
+fieldPart blank r = refuses malformed
 fieldPart fault r = refuses malformed
 
--- a number, in the next field
+-- a number, in the next field, which is not blank
 unfoldable pub numberAt : List ℕ → Part ℕ
 numberAt r = fieldPart (field r) (drop fieldWidth r)
+
+-- blank stands for 0
+abbrev pub blankZero : Field → Field
+blankZero (value v) = value v
+blankZero blank = value 0
+blankZero fault = fault
+
+-- a place, in the next field: the one field that may be blank
+unfoldable pub placeAt : List ℕ → Part ℕ
+placeAt r = fieldPart (blankZero (field r)) (drop fieldWidth r)
 
 -- the byte LF, which ends a line
 unfoldable pub endOfLine : {X : Type 0} → List ℕ → (List ℕ → Part X) → Part X
@@ -62,7 +74,7 @@ instrumentsAt m (suc c) l r =
     orRefuse (isInstrument m i and not (mem i l)) badList
     (instrumentsAt m c (l ++ (i ∷ [])) r₁))
 
--- place 0 is none given: the first listed is taken
+-- place 0, or blank, is none given: the first listed is taken
 abbrev pub placeOr : ℕ → List ℕ → ℕ
 placeOr zero l = head l
 placeOr (suc p) l = suc p
@@ -72,7 +84,7 @@ unfoldable pub batchLine : ℕ → List ℕ → Part Batch
 batchLine m r =
     andThen (numberAt r) (λ t r₁.
     orRefuse (goodMinutes t) badLength
-    (andThen (numberAt r₁) (λ p r₂.
+    (andThen (placeAt r₁) (λ p r₂.
     andThen (numberAt r₂) (λ c r₃.
     orRefuse (leb 1 c and leb c m) badList
     (andThen (instrumentsAt m c [] r₃) (λ l r₄.

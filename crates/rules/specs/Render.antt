@@ -1,12 +1,12 @@
--- Document 01, "The sheet": the form of a file, said a second time by writing it. A description is a book whose places
--- are as the file gives them, so 0 where none is given.
+-- Document 01, "The sheet": the form of a file, said a second time by writing it. A description is what a file says: a book, but with each
+-- place as the file gives it.
 use Prim.Native.Nat.{ℕ, zero, suc, _+_, _/_, _%_, _^_}
 use mathlib.Core.Bool.{Bool}
 use mathlib.Core.List.{List, [], _∷_, _++_, map}
-use lib.ListN.{length}
+use lib.ListN.{length, replicate}
 use lib.Dec.{leb, ltb, eqb}
 use Rattle.rules.specs.Fold.{_and_, _or_, pick, mem, every}
-use Rattle.rules.specs.Sheet.{Book, Batch, size, maxBatches, goodInstruments, goodMinutes, goodList}
+use Rattle.rules.specs.Sheet.{Book, Batch, maxBatches, goodInstruments, goodMinutes, goodList}
 use Rattle.rules.specs.Field.{fieldWidth}
 use Rattle.rules.specs.Read.{placeOr}
 
@@ -24,26 +24,58 @@ fields (x ∷ xs) = columns fieldWidth x ++ fields xs
 abbrev pub line : List ℕ → List ℕ
 line xs = fields xs ++ (10 ∷ [])
 
-abbrev pub renderBatch : Batch → List ℕ
-renderBatch b = line (b .minutes ∷ b .place ∷ length (b .list) ∷ b .list)
+-- a place as a file gives it: a number, which is an instrument or 0 for none, or blanks
+pub data Given : Type 0 where
+  numbered : ℕ → Given
+  leftBlank : Given
 
-unfoldable pub renderBatches : List Batch → List ℕ
+-- the number that it stands for: blanks are 0
+abbrev pub givenNumber : Given → ℕ
+givenNumber (numbered p) = p
+givenNumber leftBlank = 0
+
+abbrev pub givenColumns : Given → List ℕ
+givenColumns (numbered p) = columns fieldWidth p
+givenColumns leftBlank = replicate fieldWidth 32
+
+pub record Described : Type 0 where
+  pub minutes : ℕ
+  pub list : List ℕ
+  pub place : Given
+
+pub record Description : Type 0 where
+  pub m : ℕ
+  pub batches : List Described
+
+abbrev pub renderBatch : Described → List ℕ
+renderBatch b = columns fieldWidth (b .minutes) ++ (givenColumns (b .place) ++ line (length (b .list) ∷ b .list))
+
+unfoldable pub renderBatches : List Described → List ℕ
 renderBatches [] = []
 renderBatches (b ∷ bs) = renderBatch b ++ renderBatches bs
 
-unfoldable pub render : Book → List ℕ
-render d = line (d .m ∷ size d ∷ []) ++ renderBatches (d .batches)
+unfoldable pub render : Description → List ℕ
+render d = line (d .m ∷ length (d .batches) ∷ []) ++ renderBatches (d .batches)
 
--- a description within the limits: as a sound book, but a place may be 0
-unfoldable pub batchWithinLimits : ℕ → Batch → Bool
-batchWithinLimits m b = goodMinutes (b .minutes) and goodList m (b .list) and (eqb (b .place) 0 or mem (b .place) (b .list))
+-- a description within the limits: as a sound book, but a place may be 0 or blank
+unfoldable pub batchWithinLimits : ℕ → Described → Bool
+batchWithinLimits m b =
+    let p = givenNumber (b .place) in
+    goodMinutes (b .minutes) and goodList m (b .list) and (eqb p 0 or mem p (b .list))
 
-unfoldable pub withinLimits : Book → Bool
-withinLimits d = goodInstruments (d .m) and leb (size d) maxBatches and every (batchWithinLimits (d .m)) (d .batches)
+unfoldable pub withinLimits : Description → Bool
+withinLimits d = goodInstruments (d .m) and leb (length (d .batches)) maxBatches and every (batchWithinLimits (d .m)) (d .batches)
 
 -- the book of a description: a place not given is the first listed
-abbrev pub placed : Batch → Batch
-placed b = record { minutes = b .minutes; list = b .list; place = placeOr (b .place) (b .list) }
+abbrev pub placed : Described → Batch
+placed b = record { minutes = b .minutes; list = b .list; place = placeOr (givenNumber (b .place)) (b .list) }
 
-abbrev pub bookSaid : Book → Book
+abbrev pub bookSaid : Description → Book
 bookSaid d = record { m = d .m; batches = map placed (d .batches) }
+
+-- a description of a book: every place as its number
+abbrev pub describedBatch : Batch → Described
+describedBatch b = record { minutes = b .minutes; list = b .list; place = numbered (b .place) }
+
+abbrev pub described : Book → Description
+described k = record { m = k .m; batches = map describedBatch (k .batches) }

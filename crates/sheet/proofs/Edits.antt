@@ -23,7 +23,8 @@ use Rattle.sheet.specs.Change.{removed, replaced, requalified}
 use Rattle.theory.proofs.Entries.{getD-zeros}
 use Rattle.sheet.proofs.Represent.{sheet-sound, append-law}
 use Rattle.sheet.proofs.Change.{onto, relisted, remove-law, move-law, requalify-law}
-use Rattle.sheet.proofs.SoundArrays.{book-m, book-size, book-at, number-at, is-number, in-range, few-instruments, few-batches, narrow-book, good-long}
+use Rattle.sheet.proofs.Scan.{in-range}
+use Rattle.sheet.proofs.SoundArrays.{book-m, book-size, book-at, number-at, is-number, few-instruments, few-batches, narrow-book, good-long}
 
 abbrev pub said : Refusal → Sheet → Edited
 said r s = record { refusal = r; sheet = s }
@@ -100,17 +101,17 @@ module _ (s : Sheet) (v : Sound s) where
   unfolding editOf edit
   requalify-bad b l e g = rw (is-number s b ∙ e, good-book l g)
 
-  pub requalify-done : (b : ℕ) (l : List ℕ) (x : ℕ) (row : List ℕ) (y : Sheet) → leb 1 b and leb b (s .n) ≡ true →
-      goodList (s .m) l ≡ true →
-      x ≡ kept (getD (s .places) (b - 1) 0) (take (length l) row) → row ≡ padded 24 l → y ≡ requalified s (b - 1) x (length l) row →
+  pub requalify-done : (b : ℕ) (l : List ℕ) (row : List ℕ) (y : Sheet) → leb 1 b and leb b (s .n) ≡ true →
+      goodList (s .m) l ≡ true → row ≡ padded 24 l →
+      y ≡ requalified s (b - 1) (kept (getD (s .places) (b - 1) 0) (take (length l) row)) (length l) row →
       said Nothing y ≡ editOf s (requalify b l)
   unfolding editOf edit
-  requalify-done b l x row y e g f d u =
+  requalify-done b l row y e g d u =
       let r = in-range b (s .n) e in
       let z = book-size s in
       let w : take (length l) row ≡ l = ap (take (length l)) d ∙ take-at l (replicate (24 - length l) 0) (length l) refl in
-      let p : x ≡ kept (batch (bookOf s) b .place) l =
-      f ∙ ap (kept (getD (s .places) (b - 1) 0)) w ∙ ap (λ (c : Batch). kept (c .place) l) (sym (batch-is b e)) in
+      let p : kept (getD (s .places) (b - 1) 0) (take (length l) row) ≡ kept (batch (bookOf s) b .place) l =
+      ap (kept (getD (s .places) (b - 1) 0)) w ∙ ap (λ (c : Batch). kept (c .place) l) (sym (batch-is b e)) in
       let q : requalified s (b - 1) (kept (batch (bookOf s) b .place) l) (length l) (padded 24 l)
       ≡ sheetOf (withBatch (bookOf s) b (relisted (batch (bookOf s) b) l (kept (batch (bookOf s) b .place) l))) =
       ap (λ (t : Sheet). requalified t (b - 1) (kept (batch (bookOf s) b .place) l) (length l) (padded 24 l)) (sym (v .arrays))

@@ -11,10 +11,10 @@ use borrow.Author.Tests.{leb-true, ltb-true, ltb-false, lt-ltb, le-ltb}
 use Rattle.rules.specs.Fold.{_and_, _or_, mem}
 use Rattle.rules.specs.Refusal.{Refusal, malformed}
 use Rattle.rules.specs.Sheet.{Batch, goodInstruments, goodMinutes, isInstrument}
-use Rattle.rules.specs.Field.{Field, value, fault, field}
-use Rattle.rules.specs.Read.{Part, gives, refuses, andThen, orRefuse, fieldPart, numberAt, endOfLine, Head, headLine, instrumentsAt, placeOr, batchLine}
+use Rattle.rules.specs.Field.{Field, value, blank, fault, field}
+use Rattle.rules.specs.Read.{Part, gives, refuses, andThen, orRefuse, fieldPart, numberAt, blankZero, placeAt, endOfLine, Head, headLine, instrumentsAt, placeOr, batchLine}
 use Rattle.theory.proofs.Logic.{byTest, and-right}
-use Rattle.sheet.proofs.Lines.{six}
+use Rattle.fields.proofs.Reading.{six, six-place}
 
 -- A part read from r, and from the first w bytes of r: both are refused alike, or both give x, for which P holds, and leave
 -- what follows k bytes, at most b.
@@ -90,13 +90,20 @@ field-cut w r h = rw (take-take 6 w r h, short-cut w r h)
 abbrev whatever : {X : Type 0} → X → Type 0
 whatever x = Unit
 
+-- a field with six columns where it gives a number
+part-near : (w : ℕ) (r : List ℕ) (f : Field) → ((v : ℕ) → f ≡ value v → 6 ≤ length r)
+    → Near whatever 6 w r (fieldPart f (drop 6 r)) (fieldPart f (take (w - 6) (drop 6 r)))
+part-near w r (value v) k = give v 6 tt (omega arith) (k v refl)
+part-near w r blank k = refuse malformed
+part-near w r fault k = refuse malformed
+
 number-near : (w : ℕ) (r : List ℕ) → 6 ≤ w → Near whatever 6 w r (numberAt r) (numberAt (take w r))
 unfolding numberAt
-number-near w r h = rw (field-cut w r h, drop-cut 6 w r h) (from (field r) refl)
-  where
-    from : (f : Field) → field r ≡ f → Near whatever 6 w r (fieldPart f (drop 6 r)) (fieldPart f (take (w - 6) (drop 6 r)))
-    from (value v) e = give v 6 tt (omega arith) (six r v e)
-    from fault e = refuse malformed
+number-near w r h = rw (field-cut w r h, drop-cut 6 w r h) (part-near w r (field r) (six r))
+
+place-near : (w : ℕ) (r : List ℕ) → 6 ≤ w → Near whatever 6 w r (placeAt r) (placeAt (take w r))
+unfolding placeAt
+place-near w r h = rw (field-cut w r h, drop-cut 6 w r h) (part-near w r (blankZero (field r)) (six-place r (field r) refl))
 
 -- ---- the parts of a sheet
 
@@ -146,7 +153,7 @@ unfolding batchLine
 batch-near m w r g h =
     then-near 157 _ (number-near w r (omega arith)) (λ t k₁ a₁ b₁.
     or-near (goodMinutes t) _ (λ u₁.
-    then-near 151 _ (number-near (w - k₁) (drop k₁ r) (omega arith)) (λ p k₂ a₂ b₂.
+    then-near 151 _ (place-near (w - k₁) (drop k₁ r) (omega arith)) (λ p k₂ a₂ b₂.
     then-near 145 _ (number-near (w - k₁ - k₂) (drop k₂ (drop k₁ r)) (omega arith)) (λ c k₃ a₃ b₃.
     or-near (leb 1 c and leb c m) _ (λ u₂.
     let l : c ≤ m = leb-true c m (and-right (leb 1 c) _ u₂) in

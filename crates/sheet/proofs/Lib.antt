@@ -5,7 +5,6 @@ pub mod Shift
 pub mod Change
 pub mod SoundArrays
 pub mod Edits
-pub mod Fields
 pub mod Lines
 pub mod Extent
 pub mod Bytes

@@ -1,27 +1,24 @@
 -- What is known of a part that was read: its refusal, or what the rules give there and where they go on.
-use Prim.Native.Nat.{ℕ, suc, _+_, _-_, _*_, _≤_}
-use mathlib.Core.Path.{_≡_, refl, sym, ap, ap₂, _∙_}
+use Prim.Native.Nat.{ℕ, suc, _+_, _-_, _≤_}
+use mathlib.Core.Path.{_≡_, refl, sym, ap, _∙_}
 use mathlib.Core.List.{List, [], _∷_, _++_}
 use native.Mathlib.Omega.{arith}
 use denote.Enum.Declared.{tagOf}
 use types.Run.{OneOf, miss}
-use lib.ListN.{length, take, drop, replicate, length-drop}
-use lib.Seq.{drop-drop, take-at}
+use lib.ListN.{length, drop, length-drop}
+use lib.Seq.{drop-drop}
 use Rattle.rules.specs.Refusal.{malformed, badSize, badLength, badList, badPlace, noBatch, sheetFull, levelAbove, bufferShort}
 use Rattle.rules.specs.Refusal as R
 use Rattle.rules.specs.Sheet.{Batch}
-use Rattle.rules.specs.Read.{Part, gives, refuses, andThen, headLine, instrumentsAt, batchLine, Reading, onLine, batchLines, read}
-use Rattle.rules.specs.Read as D
+use Rattle.rules.specs.Read.{Part, gives, refuses, batchLine, Reading, onLine, batchLines}
 use Rattle.sheet.specs.declared.Refusal.{Refusal}
 use Rattle.sheet.specs.declared.Refusal.the-variants.{Nothing}
-use Rattle.sheet.specs.declared.read.Head.{Head}
-use Rattle.sheet.specs.declared.read.ListRead.{ListRead}
 use Rattle.sheet.specs.declared.read.Line.{Line}
 use Rattle.sheet.specs.Represent.{padded}
-use Rattle.sheet.specs.Answers.{coded, readAs, readOf}
-use Rattle.sheet.specs.Lines.{headAs, listAs, noLine, lineAs, lineEnd, lineList, unread}
+use Rattle.sheet.specs.Answers.{coded, readAs}
+use Rattle.sheet.specs.Lines.{lineAs, unread}
 use Rattle.sheet.proofs.Refusal.{the-type}
-use Rattle.sheet.proofs.Extent.{took, head-near, instruments-near, short, batch-near}
+use Rattle.sheet.proofs.Extent.{took, short, batch-near}
 
 -- no refusal is coded as none
 pub coded-none : (e : R.Refusal) → coded e ≡ Nothing → ⊥
@@ -48,56 +45,6 @@ suffix s at k u h l v =
     ap (λ (i : ℕ). drop i s) e ∙ sym (drop-drop k at s) ∙ v
 
 module _ (s : List ℕ) (at : ℕ) (h : at ≤ length s) where
-  -- ---- a list
-
-  pub record ListGiven (m c : ℕ) (i : ListRead) : Type 0 where
-    pub part : instrumentsAt m c [] (drop at s) ≡ gives (take c (i .list)) (drop (i .next) s)
-    pub room : i .next ≤ length s
-    pub row : padded 24 (take c (i .list)) ≡ i .list
-
-  pub list-given : (m c : ℕ) (i : ListRead) → i ≡ listAs (length s) (instrumentsAt m c [] (drop at s)) → i .refusal ≡ Nothing
-      → ListGiven m c i
-  list-given m c i e n = from (instrumentsAt m c [] (drop at s)) refl e
-    where
-      from : (p : Part (List ℕ)) → instrumentsAt m c [] (drop at s) ≡ p → i ≡ listAs (length s) p → ListGiven m c i
-      from (refuses g) q d = absurd (coded-none g (sym (ap (λ (x : ListRead). x .refusal) d) ∙ n))
-      from (gives l u) q d =
-          took (instruments-near m c [] (6 * c) (drop at s) (omega arith)) q (λ a k j v.
-          let b : take c (i .list) ≡ l =
-          ap (λ (x : ListRead). take c (x .list)) d ∙ take-at l (replicate (24 - length l) 0) c (omega (arith, a)) in
-          let f : drop (i .next) s ≡ u = ap (λ (x : ListRead). drop (x .next) s) d ∙ suffix s at k u h j v in
-          record {
-            part = q ∙ ap₂ gives (sym b) (sym f);
-            room = omega (arith, ap (λ (x : ListRead). x .next) d);
-            row = ap (padded 24) b ∙ sym (ap (λ (x : ListRead). x .list) d);
-          })
-
-  -- ---- line 1
-
-  pub record HeadGiven (i : Head) : Type 0 where
-    pub part : headLine (drop at s) ≡ gives (record { m = i .m; n = i .n }) (drop (i .next) s)
-    pub room : i .next ≤ length s
-    pub instruments : i .m ≤ 24
-    pub batches : i .n ≤ 200
-
-  pub head-given : (j : ℕ) (i : Head) → i ≡ headAs (length s) j (headLine (drop at s)) → i .refusal ≡ Nothing → HeadGiven i
-  head-given j i e n = from (headLine (drop at s)) refl e
-    where
-      from : (p : Part D.Head) → headLine (drop at s) ≡ p → i ≡ headAs (length s) j p → HeadGiven i
-      from (refuses g) q d = absurd (coded-none g (sym (ap (λ (x : Head). x .refusal) d) ∙ n))
-      from (gives l u) q d =
-          took (head-near 13 (drop at s) (omega arith)) q (λ a k z v.
-          let b : record { m = i .m; n = i .n } ≡ l = ap (λ (x : Head). record { m = x .m; n = x .n }) d in
-          let f : drop (i .next) s ≡ u = ap (λ (x : Head). drop (x .next) s) d ∙ suffix s at k u h z v in
-          record {
-            part = q ∙ ap₂ gives (sym b) (sym f);
-            room = omega (arith, ap (λ (x : Head). x .next) d);
-            instruments = omega (arith, ap (λ (x : Head). x .m) d, a .instruments);
-            batches = omega (arith, ap (λ (x : Head). x .n) d, a .batches);
-          })
-
-  -- ---- a batch line
-
   pub record LineGiven (m : ℕ) (i : Line) : Type 0 where
     pub batch : Batch
     pub part : batchLine m (drop at s) ≡ gives batch (drop (i .next) s)
@@ -128,27 +75,7 @@ module _ (s : List ℕ) (at : ℕ) (h : at ≤ length s) where
             list = ap (λ (x : Line). x .list) d;
           })
 
--- ---- refusals are handed on
-
-pub list-refused : (s : List ℕ) (at m t p c j : ℕ) (i : ListRead) → i ≡ listAs (length s) (instrumentsAt m c [] (drop at s))
-    → (i .refusal ≡ Nothing → ⊥) → noLine (i .refusal) j ≡ lineAs (length s) j (lineList m t p c (drop at s))
-list-refused s at m t p c j i e n = from (instrumentsAt m c [] (drop at s)) e
-  where
-    from : (q : Part (List ℕ)) → i ≡ listAs (length s) q
-        → noLine (i .refusal) j ≡ lineAs (length s) j (andThen q (λ l r. lineEnd t p l r))
-    from (gives l r) d = absurd (n (ap (λ (x : ListRead). x .refusal) d))
-    from (refuses g) d = ap (λ (x : ListRead). noLine (x .refusal) j) d
-
-pub head-refused : (s : List ℕ) (i : Head) → i ≡ headAs (length s) 1 (headLine s) → (i .refusal ≡ Nothing → ⊥)
-    → unread (i .refusal) (i .line) ≡ readOf s
-unfolding readOf read
-head-refused s i e n = from (headLine s) (λ h r. batchLines (h .m) (h .n) 2 [] r) e
-  where
-    from : (q : Part D.Head) (f : D.Head → List ℕ → Reading) → i ≡ headAs (length s) 1 q
-        → unread (i .refusal) (i .line) ≡ readAs (onLine 1 q f)
-    from (gives l r) f d = absurd (n (ap (λ (x : Head). x .refusal) d))
-    from (refuses g) f d = ap (λ (x : Head). unread (x .refusal) (x .line)) d
-
+-- a refusal is handed on
 pub line-refused : (s : List ℕ) (at m c j : ℕ) (bs : List Batch) (i : Line) → i ≡ lineAs (length s) j (batchLine m (drop at s))
     → (i .refusal ≡ Nothing → ⊥) → unread (i .refusal) (i .line) ≡ readAs (batchLines m (suc c) j bs (drop at s))
 unfolding batchLines

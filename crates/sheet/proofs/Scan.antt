@@ -7,9 +7,11 @@ use native.Mathlib.Omega.{arith}
 use native.Mathlib.Numerals.{add-one}
 use lib.ListN.{length, getD, set, take, drop, replicate, drop-of-length-le}
 use lib.Seq.{take-suc, take-all, drop-cons, take-add, drop-at, length-take-le, getD-take}
-use borrow.Author.Tests.{eq-eqb, ne-eqb, le-leb, lt-leb, not-true, not-false}
+use lib.Dec.{leb}
+use borrow.Author.Tests.{eq-eqb, ne-eqb, leb-true, not-true, not-false}
 use Rattle.rules.specs.Fold.{_and_, _or_, mem, every}
 use Rattle.rules.specs.Sheet.{isInstrument, distinct, goodList}
+use Rattle.theory.proofs.Logic.{byTest, and-left, and-right, and-mk, and-no-left, and-no-right}
 use Rattle.sheet.specs.Represent.{padded}
 use Rattle.sheet.proofs.Padded.{set-append}
 
@@ -24,6 +26,11 @@ pub record Passes (p : ℕ → Bool) (l : List ℕ) (from i : ℕ) : Type 0 wher
 -- they name no number twice as those do
 pub record DistinctSo (l : List ℕ) (from i : ℕ) : Type 0 where
   pub same : distinct (drop i l) ≡ distinct (drop from l)
+
+-- both, for a list on m instruments
+pub record GoodSo (m : ℕ) (l : List ℕ) (i : ℕ) : Type 0 where
+  pub ranged : Passes (isInstrument m) l 0 i
+  pub apart : DistinctSo l 0 i
 
 rest : (l : List ℕ) (i : ℕ) → i < length l → drop i l ≡ getD l i 0 ∷ drop (i + 1) l
 rest l i h = rw (add-one, drop-cons l i 0)
@@ -130,25 +137,31 @@ failed {t} e f = sym e ∙ not-true t f
 pub passed : {t u : Bool} → t ≡ u → not t ≡ false → u ≡ true
 passed {t} e f = sym e ∙ not-false t f
 
--- ---- a good list, by its four tests
+-- ---- a number of 1 to n
 
 pub positive : (x : ℕ) → (x ≡ 0 → ⊥) → 1 ≤ x
 positive zero e = absurd (e refl)
 positive (suc x) e = omega arith
 
+pub in-range : (x n : ℕ) → leb 1 x and leb x n ≡ true → (0 < x) × (x ≤ n)
+in-range x n e = (leb-true _ _ (and-left _ _ e), leb-true _ _ (and-right (leb 1 x) _ e))
+
+-- ---- a good list, by its tests: how long it is, what it names, and that it names none twice
+
 module _ (m : ℕ) (l : List ℕ) where
-  pub list-empty : length l ≡ 0 → false ≡ goodList m l
+  pub list-size : leb 1 (length l) and leb (length l) m ≡ false → false ≡ goodList m l
   unfolding goodList _and_
-  list-empty e = rw e
+  list-size e = byTest (leb 1 (length l)) (λ t. rw (t, rw t at e)) (λ t. rw t)
 
-  pub list-long : m < length l → false ≡ goodList m l
-  unfolding goodList _and_
-  list-long h = rw (le-leb 1 (length l) (omega arith), lt-leb (length l) m h)
+  pub list-strange : every (isInstrument m) l ≡ false → false ≡ goodList m l
+  unfolding goodList
+  list-strange e = sym (and-no-right _ _ (and-no-right _ _ (and-no-left _ _ e)))
 
-  pub list-strange : (length l ≡ 0 → ⊥) → length l ≤ m → every (isInstrument m) l ≡ false → false ≡ goodList m l
-  unfolding goodList _and_
-  list-strange z h e = rw (le-leb 1 (length l) (positive (length l) z), le-leb (length l) m h, e)
+  pub list-twice : distinct l ≡ false → false ≡ goodList m l
+  unfolding goodList
+  list-twice e = sym (and-no-right _ _ (and-no-right _ _ (and-no-right _ _ e)))
 
-  pub list-apart : (length l ≡ 0 → ⊥) → length l ≤ m → every (isInstrument m) l ≡ true → distinct l ≡ goodList m l
-  unfolding goodList _and_
-  list-apart z h e = rw (le-leb 1 (length l) (positive (length l) z), le-leb (length l) m h, e)
+  pub list-good : leb 1 (length l) and leb (length l) m ≡ true → every (isInstrument m) l ≡ true → distinct l ≡ true → true ≡ goodList m l
+  unfolding goodList
+  list-good e p d =
+      sym (and-mk _ _ (and-left _ _ e) (and-mk _ _ (and-right (leb 1 (length l)) _ e) (and-mk _ _ p d)))

@@ -16,6 +16,7 @@ use Rattle.theory.proofs.Member.{every-at}
 use Rattle.theory.proofs.Sound.{Good, good-is, sound-is, good-batch, good-ranged}
 use Rattle.sheet.specs.declared.Sheet.{Sheet}
 use Rattle.sheet.specs.Represent.{sheetOf, batchAt, batchesTo, bookOf, Sound}
+use Rattle.sheet.proofs.Scan.{in-range}
 use Rattle.sheet.proofs.Represent.{narrow, entry-by, sound-narrow}
 
 -- ---- the book's parts
@@ -60,9 +61,6 @@ number-at k (suc b) h = let e : b ≡ suc b - 1 = omega arith in ap (λ (i : ℕ
 pub is-number : (s : Sheet) (b : ℕ) → isBatch (bookOf s) b ≡ leb 1 b and leb b (s .n)
 unfolding isBatch
 is-number s b = ap (λ (n : ℕ). leb 1 b and leb b n) (book-size s)
-
-pub in-range : (b n : ℕ) → leb 1 b and leb b n ≡ true → (0 < b) × (b ≤ n)
-in-range b n e = (leb-true _ _ (and-left _ _ e), leb-true _ _ (and-right (leb 1 b) _ e))
 
 counts-at : (k : Book) (i : ℕ) → getD (sheetOf k .counts) i 0 ≡ length (getD (k .batches) i noBatchHere .list)
 unfolding sheetOf

@@ -1,6 +1,5 @@
 pub mod Represent
 pub mod Answers
 pub mod Change
-pub mod Columns
 pub mod Lines
 pub mod View

@@ -1,11 +1,10 @@
 // The edits: each takes a sheet and gives it back, changed or, on a refusal, as it was.
 ghost use Prim.Native.Nat.{ℕ, _+_, _<_, _≤_};
 ghost use mathlib.Core.Path.{_≡_};
-ghost use lib.ListN.{length, getD, drop};
-ghost use lib.Dec.{leb};
-ghost use Rattle.rules.specs.Fold.{_and_, mem, every};
-ghost use Rattle.rules.specs.Sheet.{isInstrument, distinct, goodList};
-ghost use Rattle.rules.specs.Edit.{add as adding, withdraw as withdrawing, requalify as requalifying, move as moving};
+ghost use lib.ListN.{length, getD, take, drop};
+ghost use Rattle.rules.specs.Fold.{mem};
+ghost use Rattle.rules.specs.Sheet.{goodList};
+ghost use Rattle.rules.specs.Edit.{kept, add as adding, withdraw as withdrawing, requalify as requalifying, move as moving};
 ghost use Rattle.sheet.specs.Represent.{Sound, padded};
 ghost use Rattle.sheet.specs.Answers.{EditAnswered};
 ghost use Rattle.sheet.specs.Change.{cut, removed, requalified};
@@ -15,6 +14,7 @@ use crate::Sheet;
 use crate::enter_part;
 use crate::kept_in;
 use crate::listed;
+use crate::within;
 
 impl Sheet {
     // A batch more, at the end, on the first listed.
@@ -92,9 +92,7 @@ impl Sheet {
             };
         }
         let row = row_of(list);
-        let at = b - 1;
-        let place = kept_in(&row, 0, list.len(), self.places[at]);
-        let sheet = self.requalified(at, place, list.len() as u8, row);
+        let sheet = self.requalified(b - 1, list.len() as u8, row);
         Edited {
             refusal: Refusal::Nothing,
             sheet,
@@ -155,11 +153,12 @@ impl Sheet {
         }
     }
 
-    // The batch at the index at with another place and list.
-    fn requalified(mut self, at: usize, place: u8, count: u8, row: [u8; 24]) -> Sheet
-        requires { ⌜ at < 200 ⌝ }
-        ensures { λ r. ⌜ r ≡ requalified self at place count row ⌝ }
+    // The batch at the index at with another list, whose count instruments stand at the front of row.
+    fn requalified(mut self, at: usize, count: u8, row: [u8; 24]) -> Sheet
+        requires { ⌜ (at < 200) × (0 < count) × (count ≤ 24) ⌝ }
+        ensures { λ r. ⌜ r ≡ requalified self at (kept (getD (self .places) at 0) (take count row)) count row ⌝ }
     {
+        let place = kept_in(&row, 0, count as usize, self.places[at]);
         self.places[at] = place;
         self.counts[at] = count;
         let mut lists = self.lists;
@@ -174,53 +173,20 @@ impl Sheet {
     }
 }
 
-// x is one of 1 to k.
-fn within(x: usize, k: usize) -> bool
-    ensures { λ r. ⌜ r ≡ leb 1 x and leb x k ⌝ }
-{
-    if x == 0 {
-        return false;
-    }
-    x <= k
-}
-
 // A list that a batch may have on m instruments. A long one is refused before repeats are looked for.
 fn good_list(list: &[u32], m: usize) -> bool
     ensures { λ r. ⌜ r ≡ goodList m (now (list .entry)) ⌝ }
 {
-    if list.len() == 0 {
+    if !within(list.len(), m) {
         return false;
     }
-    if m < list.len() {
-        return false;
-    }
-    if !all_instruments(list, m) {
-        return false;
-    }
-    all_distinct(list)
-}
-
-// Each number is one of 1 to m.
-fn all_instruments(list: &[u32], m: usize) -> bool
-    ensures { λ r. ⌜ r ≡ every (isInstrument m) (now (list .entry)) ⌝ }
-{
     let mut i = 0;
     while i < list.len() {
-        if !within(list[i] as usize, m) {
+        let x = list[i];
+        if !within(x as usize, m) {
             return false;
         }
-        i += 1;
-    }
-    true
-}
-
-// No number twice.
-fn all_distinct(list: &[u32]) -> bool
-    ensures { λ r. ⌜ r ≡ distinct (now (list .entry)) ⌝ }
-{
-    let mut i = 0;
-    while i < list.len() {
-        if named_from(list, i + 1, list[i]) {
+        if named_from(list, i + 1, x) {
             return false;
         }
         i += 1;

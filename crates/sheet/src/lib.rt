@@ -1,13 +1,13 @@
 // The sheet: m instruments and up to 200 batches, read from a file and edited. A sheet goes in by value and comes back.
 ghost use mathlib.Core.Path.{_≡_};
 ghost use Prim.Native.Nat.{_+_, _<_, _≤_};
+ghost use lib.Dec.{leb};
 ghost use lib.ListN.{length, take, drop};
 ghost use lib.Seq.{paste};
-ghost use Rattle.rules.specs.Fold.{mem};
+ghost use Rattle.rules.specs.Fold.{_and_, mem};
 ghost use Rattle.rules.specs.Edit.{kept};
 ghost use Rattle.sheet.specs.Represent.{appended, blank};
 
-mod columns;
 pub mod edit;
 pub mod read;
 pub mod view;
@@ -124,4 +124,14 @@ fn kept_in(lists: &[u8], from: usize, count: usize, place: u8) -> u8
         return place;
     }
     lists[from]
+}
+
+// x is one of 1 to k.
+fn within(x: usize, k: usize) -> bool
+    ensures { λ r. ⌜ r ≡ leb 1 x and leb x k ⌝ }
+{
+    if x == 0 {
+        return false;
+    }
+    x <= k
 }

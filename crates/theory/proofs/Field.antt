@@ -1,16 +1,16 @@
--- Laws of fields: a number that fits its columns is read back, and what is read is the number's own columns.
+-- Laws of fields: a number that fits its columns is read back, and what is read is the number's own columns; likewise blank.
 use Prim.Native.Nat.{ℕ, zero, suc, _+_, _-_, _*_, _/_, _%_, _^_, _≤_, _<_}
 use mathlib.Core.Path.{_≡_, refl, sym, ap, ap₂, _∙_, subst}
 use mathlib.Core.Bool.{Bool, true, false}
 use mathlib.Core.List.{List, [], _∷_, _++_}
 use native.Mathlib.Nat.{pow-suc, one-le-pow, div-one, div-div-eq-div-mul, div-lt-iff-lt-mul, le-div-iff-mul-le, mul-comm, one-mul}
 use native.Mathlib.Omega.{arith}
-use lib.ListN.{length, take, drop, length-append, take-append-drop}
+use lib.ListN.{length, take, drop, replicate, length-append, take-append-drop}
 use lib.Seq.{take-at, length-take-le}
 use lib.Dec.{leb, ltb, eqb}
 use borrow.Author.Tests.{leb-true, ltb-true, ltb-false, eqb-true, eqb-false, le-leb, lt-ltb, le-ltb, ne-eqb}
 use Rattle.rules.specs.Fold.{pick, _and_}
-use Rattle.rules.specs.Field.{value, fault, isDigit, digits, loneZero, blanks, field}
+use Rattle.rules.specs.Field.{Field, value, blank, fault, isDigit, digits, loneZero, blanks, field}
 use Rattle.rules.specs.Render.{columns}
 use Rattle.theory.proofs.Logic.{byTest, conflict, and-left, and-right, and-mk}
 
@@ -48,23 +48,23 @@ digit-one w v h = subst (λ (p : ℕ). v < p) (sym (ten-suc w)) (div-lt-iff-lt-m
 -- ---- the columns of a number, one by one
 
 -- the column before the last w is blank
-abbrev blank : ℕ → ℕ → Bool
-blank w v = leb 1 w and ltb v (10 ^ w)
+abbrev empty : ℕ → ℕ → Bool
+empty w v = leb 1 w and ltb v (10 ^ w)
 
 -- its digit where it is not
 abbrev digit : ℕ → ℕ → ℕ
 digit w v = 48 + v / 10 ^ w % 10
 
-columns-blank : (w v : ℕ) → blank w v ≡ true → columns (suc w) v ≡ 32 ∷ columns w v
+columns-blank : (w v : ℕ) → empty w v ≡ true → columns (suc w) v ≡ 32 ∷ columns w v
 unfolding columns
 columns-blank w v e = rw e
 
-columns-digit : (w v : ℕ) → blank w v ≡ false → columns (suc w) v ≡ digit w v ∷ columns w v
+columns-digit : (w v : ℕ) → empty w v ≡ false → columns (suc w) v ≡ digit w v ∷ columns w v
 unfolding columns
 columns-digit w v e = rw e
 
-not-blank : (w v : ℕ) → 10 ^ w ≤ v → blank w v ≡ false
-not-blank w v h = byTest (blank w v) (λ t. absurd (omega (arith, ltb-true v (10 ^ w) (and-right (leb 1 w) _ t)))) (λ t. t)
+not-blank : (w v : ℕ) → 10 ^ w ≤ v → empty w v ≡ false
+not-blank w v h = byTest (empty w v) (λ t. absurd (omega (arith, ltb-true v (10 ^ w) (and-right (leb 1 w) _ t)))) (λ t. t)
 
 is-digit : (d : ℕ) → d < 10 → isDigit (48 + d) ≡ true
 is-digit d h = and-mk _ _ (le-leb 48 (48 + d) (omega arith)) (le-leb (48 + d) 57 (omega arith))
@@ -104,7 +104,7 @@ full-columns w v h l =
     ∙ digits-columns w v l
 
 -- the columns from the first digit on
-first-digit : (w v : ℕ) → v < 10 ^ suc w → blank w v ≡ false → blanks (digit w v ∷ columns w v) ≡ value v
+first-digit : (w v : ℕ) → v < 10 ^ suc w → empty w v ≡ false → blanks (digit w v ∷ columns w v) ≡ value v
 unfolding blanks loneZero columns
 first-digit zero zero h e = refl
 first-digit zero (suc v) h e = full-columns 0 (suc v) h (omega arith)
@@ -119,23 +119,39 @@ blanks-columns : (w v : ℕ) → 0 < w → v < 10 ^ w → blanks (columns w v) �
 unfolding blanks
 blanks-columns zero v p h = absurd (omega arith)
 blanks-columns (suc w) v p h =
-    byTest (blank w v)
+    byTest (empty w v)
     (λ t. rw (columns-blank w v t)
     (blanks-columns w v (leb-true _ _ (and-left _ _ t)) (ltb-true _ _ (and-right (leb 1 w) _ t))))
     (λ t. rw (columns-digit w v t) (first-digit w v h t))
 
-pub field-columns : (v : ℕ) (r : List ℕ) → v < 10 ^ 6 → field (columns 6 v ++ r) ≡ value v
+blanks-all : (w : ℕ) → blanks (replicate w 32) ≡ blank
+unfolding blanks
+blanks-all zero = refl
+blanks-all (suc w) = blanks-all w
+
+-- six columns and what follows them
+field-front : (s r : List ℕ) → length s ≡ 6 → field (s ++ r) ≡ blanks s
 unfolding field
-field-columns v r h =
-    let f : ltb (length (columns 6 v ++ r)) 6 ≡ false =
-    le-ltb (length (columns 6 v ++ r)) 6 (omega (arith, length-append (columns 6 v) r, columns-length 6 v)) in
-    ap₂ (λ (t : Bool) (s : List ℕ). pick t fault (blanks s)) f (take-at (columns 6 v) r 6 (columns-length 6 v))
-    ∙ blanks-columns 6 v (omega arith) h
+field-front s r h =
+    let f : ltb (length (s ++ r)) 6 ≡ false = le-ltb (length (s ++ r)) 6 (omega (arith, length-append s r)) in
+    ap₂ (λ (t : Bool) (u : List ℕ). pick t fault (blanks u)) f (take-at s r 6 h)
+
+pub field-columns : (v : ℕ) (r : List ℕ) → v < 10 ^ 6 → field (columns 6 v ++ r) ≡ value v
+field-columns v r h = field-front (columns 6 v) r (columns-length 6 v) ∙ blanks-columns 6 v (omega arith) h
+
+pub field-blanks : (r : List ℕ) → field (replicate 6 32 ++ r) ≡ blank
+field-blanks r = field-front (replicate 6 32) r refl ∙ blanks-all 6
 
 -- ---- reading, then writing
 
 no-value {ℓ} : {X : Type ℓ} {v : ℕ} → fault ≡ value v → X
 no-value e = absurd (let z : _≡_ {A = ℕ} 0 1 = cc in omega arith)
+
+not-blank-value {ℓ} : {X : Type ℓ} {v : ℕ} → blank ≡ value v → X
+not-blank-value e = absurd (let z : _≡_ {A = ℕ} 0 1 = cc in omega arith)
+
+no-blank {ℓ} : {X : Type ℓ} → fault ≡ blank → X
+no-blank e = absurd (let z : _≡_ {A = ℕ} 0 1 = cc in omega arith)
 
 digits-head : (x : ℕ) (s : List ℕ) (a v : ℕ) → digits (x ∷ s) a ≡ value v
     → (48 ≤ x) × (x ≤ 57) × (digits s (10 * a + (x - 48)) ≡ value v)
@@ -170,12 +186,12 @@ lone-value (x ∷ s) v e = no-value e
 
 blanks-some : (s : List ℕ) (v : ℕ) → blanks s ≡ value v → 0 < length s
 unfolding blanks
-blanks-some [] v e = no-value e
+blanks-some [] v e = not-blank-value e
 blanks-some (x ∷ s) v e = omega arith
 
 blanks-value : (s : List ℕ) (v : ℕ) → blanks s ≡ value v → (v < 10 ^ length s) × (s ≡ columns (length s) v)
 unfolding blanks columns _and_
-blanks-value [] v e = no-value e
+blanks-value [] v e = not-blank-value e
 blanks-value (x ∷ s) v e =
     byTest (eqb x 32)
     (λ t.
@@ -194,14 +210,46 @@ blanks-value (x ∷ s) v e =
     let p : 0 < 10 * 0 + (x - 48) = omega (arith, h .0, eqb-false x 48 u) in
     (digit-one (length s) v (omega (arith, r .0, h .1)), digit-front x s 0 v (h .0) (h .1) (r .0) p (r .1 p))))
 
-pub field-value : (r : List ℕ) (v : ℕ) → field r ≡ value v → (v < 10 ^ 6) × (r ≡ columns 6 v ++ drop 6 r)
+digits-blank {ℓ} : {X : Type ℓ} (s : List ℕ) (a : ℕ) → digits s a ≡ blank → X
+unfolding digits
+digits-blank [] a e = not-blank-value (sym e)
+digits-blank (x ∷ s) a e =
+    byTest (isDigit x) (λ t. digits-blank s (10 * a + (x - 48)) (rw t at e)) (λ t. no-blank (rw t at e))
+
+lone-blank {ℓ} : {X : Type ℓ} (s : List ℕ) → loneZero s ≡ blank → X
+unfolding loneZero
+lone-blank [] e = not-blank-value (sym e)
+lone-blank (x ∷ s) e = no-blank e
+
+blanks-blank : (s : List ℕ) → blanks s ≡ blank → s ≡ replicate (length s) 32
+unfolding blanks
+blanks-blank [] e = refl
+blanks-blank (x ∷ s) e =
+    byTest (eqb x 32)
+    (λ t. ap₂ _∷_ (eqb-true x 32 t) (blanks-blank s (rw t at e)))
+    (λ t. byTest (eqb x 48)
+    (λ u. lone-blank s (rw (t, u) at e))
+    (λ u. digits-blank (x ∷ s) 0 (rw (t, u) at e)))
+
+-- only six columns give anything but the fault
+pub six-columns : (r : List ℕ) (f : Field) → field r ≡ f → (fault ≡ f → ⊥) → (6 ≤ length r) × (blanks (take 6 r) ≡ f)
 unfolding field
+six-columns r f e n =
+    byTest (ltb (length r) 6) (λ t. absurd (n (rw t at e))) (λ t. (ltb-false _ _ t, rw t at e))
+
+-- six columns that are s, and what follows them
+front-is : (r s : List ℕ) → take 6 r ≡ s → r ≡ s ++ drop 6 r
+front-is r s e = sym (take-append-drop 6 r) ∙ ap (λ (u : List ℕ). u ++ drop 6 r) e
+
+pub field-value : (r : List ℕ) (v : ℕ) → field r ≡ value v → (v < 10 ^ 6) × (r ≡ columns 6 v ++ drop 6 r)
 field-value r v e =
-    byTest (ltb (length r) 6)
-    (λ t. no-value (rw t at e))
-    (λ t.
-    let n : length (take 6 r) ≡ 6 = length-take-le 6 r (ltb-false _ _ t) in
-    let b = blanks-value (take 6 r) v (rw t at e) in (
-      subst (λ (w : ℕ). v < 10 ^ w) n (b .0),
-      sym (take-append-drop 6 r) ∙ ap (λ (s : List ℕ). s ++ drop 6 r) (b .1 ∙ ap (λ (w : ℕ). columns w v) n),
-    ))
+    let k = six-columns r (value v) e no-value in
+    let n : length (take 6 r) ≡ 6 = length-take-le 6 r (k .0) in
+    let b = blanks-value (take 6 r) v (k .1) in
+    (subst (λ (w : ℕ). v < 10 ^ w) n (b .0), front-is r (columns 6 v) (b .1 ∙ ap (λ (w : ℕ). columns w v) n))
+
+pub field-blank : (r : List ℕ) → field r ≡ blank → r ≡ replicate 6 32 ++ drop 6 r
+field-blank r e =
+    let k = six-columns r blank e no-blank in
+    let n : length (take 6 r) ≡ 6 = length-take-le 6 r (k .0) in
+    front-is r (replicate 6 32) (blanks-blank (take 6 r) (k .1) ∙ ap (λ (w : ℕ). replicate w 32) n)

@@ -4,29 +4,40 @@ use mathlib.Core.Path.{_≡_, refl, sym, ap, _∙_}
 use mathlib.Core.Bool.{true, false, not}
 use mathlib.Core.List.{List, [], _∷_, _++_, map, append-nil, append-assoc}
 use native.Mathlib.Omega.{arith}
-use lib.ListN.{length, drop}
+use lib.ListN.{length, drop, replicate}
 use lib.Seq.{drop-at}
 use lib.Dec.{leb, eqb}
 use borrow.Author.Tests.{leb-true, eqb-true, eqb-false, ne-eqb, not-true}
 use Rattle.rules.specs.Fold.{_and_, _or_, mem, every}
-use Rattle.rules.specs.Sheet.{Book, Batch, size, maxBatches, goodInstruments, goodMinutes, isInstrument, distinct, goodList}
+use Rattle.rules.specs.Sheet.{Batch, maxBatches, goodInstruments, goodMinutes, isInstrument, distinct, goodList}
 use Rattle.rules.specs.Field.{Field, field}
-use Rattle.rules.specs.Read.{gives, fieldPart, numberAt, endOfLine, headLine, instrumentsAt, batchLine, accepted, batchLines, read}
-use Rattle.rules.specs.Render.{columns, fields, line, renderBatch, renderBatches, render, batchWithinLimits, withinLimits, placed, bookSaid}
+use Rattle.rules.specs.Read.{gives, fieldPart, numberAt, blankZero, placeAt, endOfLine, headLine, instrumentsAt, batchLine, accepted, batchLines, read}
+use Rattle.rules.specs.Render.{columns, fields, line, Given, numbered, leftBlank, givenNumber, givenColumns, Described, Description, renderBatch, renderBatches, render, batchWithinLimits, withinLimits, placed, bookSaid}
 use Rattle.theory.proofs.Logic.{and-left, and-right, and-mk, not-mk, or-cases, or-none}
 use Rattle.theory.proofs.Member.{mem-append, every-mem}
-use Rattle.theory.proofs.Field.{columns-length, field-columns}
+use Rattle.theory.proofs.Field.{columns-length, field-columns, field-blanks}
 
 -- ---- fields
 
+-- a number before the rest of the file
+column-read : (x : ℕ) (s : List ℕ) → x < 10 ^ 6 → numberAt (columns 6 x ++ s) ≡ gives x s
+unfolding numberAt
+column-read x s h =
+    ap (λ (f : Field). fieldPart f (drop 6 (columns 6 x ++ s))) (field-columns x s h)
+    ∙ ap (λ (u : List ℕ). gives x u) (drop-at (columns 6 x) s 6 (columns-length 6 x))
+
 -- a number before further fields
 pub number-read : (x : ℕ) (xs r : List ℕ) → x < 10 ^ 6 → numberAt (fields (x ∷ xs) ++ r) ≡ gives x (fields xs ++ r)
-unfolding numberAt fields
-number-read x xs r h =
-    let s : List ℕ = fields xs ++ r in
-    ap (λ (u : List ℕ). fieldPart (field u) (drop 6 u)) (append-assoc (columns 6 x) (fields xs) r)
-    ∙ ap (λ (f : Field). fieldPart f (drop 6 (columns 6 x ++ s))) (field-columns x s h)
+unfolding fields
+number-read x xs r h = ap numberAt (append-assoc (columns 6 x) (fields xs) r) ∙ column-read x (fields xs ++ r) h
+
+-- a place before the rest of the file
+place-read : (p : Given) (s : List ℕ) → givenNumber p < 10 ^ 6 → placeAt (givenColumns p ++ s) ≡ gives (givenNumber p) s
+unfolding placeAt
+place-read (numbered x) s h =
+    ap (λ (f : Field). fieldPart (blankZero f) (drop 6 (columns 6 x ++ s))) (field-columns x s h)
     ∙ ap (λ (u : List ℕ). gives x u) (drop-at (columns 6 x) s 6 (columns-length 6 x))
+place-read leftBlank s h = ap (λ (f : Field). fieldPart (blankZero f) (drop 6 (replicate 6 32 ++ s))) (field-blanks s)
 
 -- ---- a list of instruments
 
@@ -64,12 +75,12 @@ pub line-rest : (xs r : List ℕ) → line xs ++ r ≡ fields xs ++ (10 ∷ r)
 line-rest xs r = append-assoc (fields xs) (10 ∷ []) r
 
 -- the parts of a batch within the limits
-pub record BatchWithinLimits (m : ℕ) (b : Batch) : Type 0 where
+pub record BatchWithinLimits (m : ℕ) (b : Described) : Type 0 where
   pub minutes : goodMinutes (b .minutes) ≡ true
   pub list : goodList m (b .list) ≡ true
-  pub place : eqb (b .place) 0 or mem (b .place) (b .list) ≡ true
+  pub place : eqb (givenNumber (b .place)) 0 or mem (givenNumber (b .place)) (b .list) ≡ true
 
-pub batch-within-is : (m : ℕ) (b : Batch) → batchWithinLimits m b ≡ true → BatchWithinLimits m b
+pub batch-within-is : (m : ℕ) (b : Described) → batchWithinLimits m b ≡ true → BatchWithinLimits m b
 unfolding batchWithinLimits
 batch-within-is m b e =
     let r = and-right (goodMinutes (b .minutes)) _ e in
@@ -105,17 +116,22 @@ place-small m p l h g e =
 count-small : (m c : ℕ) → m ≤ 24 → leb 1 c and leb c m ≡ true → c < 10 ^ 6
 count-small m c h e = let u : c ≤ m = leb-true c m (and-right (leb 1 c) _ e) in omega arith
 
-pub batch-read : (m : ℕ) (b : Batch) (r : List ℕ) → m ≤ 24 → batchWithinLimits m b ≡ true
+-- a batch line before the rest of the file
+pub batch-rest : (b : Described) (r : List ℕ) → renderBatch b ++ r
+    ≡ columns 6 (b .minutes) ++ (givenColumns (b .place) ++ (fields (length (b .list) ∷ b .list) ++ (10 ∷ r)))
+batch-rest b r = simp append-assoc
+
+pub batch-read : (m : ℕ) (b : Described) (r : List ℕ) → m ≤ 24 → batchWithinLimits m b ≡ true
     → batchLine m (renderBatch b ++ r) ≡ gives (placed b) r
 unfolding batchLine endOfLine
 batch-read m b r h e =
     let f = batch-within-is m b e in
     let g = good-list-is m (b .list) (f .list) in
     rw (
-      line-rest (b .minutes ∷ b .place ∷ length (b .list) ∷ b .list) r,
-      number-read (b .minutes) (b .place ∷ length (b .list) ∷ b .list) (10 ∷ r) (minutes-small _ (f .minutes)),
+      batch-rest b r,
+      column-read (b .minutes) (givenColumns (b .place) ++ (fields (length (b .list) ∷ b .list) ++ (10 ∷ r))) (minutes-small _ (f .minutes)),
       f .minutes,
-      number-read (b .place) (length (b .list) ∷ b .list) (10 ∷ r) (place-small m _ (b .list) h (g .ranged) (f .place)),
+      place-read (b .place) (fields (length (b .list) ∷ b .list) ++ (10 ∷ r)) (place-small m _ (b .list) h (g .ranged) (f .place)),
       number-read (length (b .list)) (b .list) (10 ∷ r) (count-small m _ h (g .count)),
       g .count,
       instruments-read m (b .list) [] (10 ∷ r) h (g .ranged) (g .apart),
@@ -124,7 +140,7 @@ batch-read m b r h e =
 
 -- ---- the batch lines
 
-pub batches-read : (m : ℕ) (ds bs : List Batch) (j : ℕ) → m ≤ 24 → every (batchWithinLimits m) ds ≡ true
+pub batches-read : (m : ℕ) (ds : List Described) (bs : List Batch) (j : ℕ) → m ≤ 24 → every (batchWithinLimits m) ds ≡ true
     → batchLines m (length ds) j bs (renderBatches ds) ≡ accepted (record { m = m; batches = bs ++ map placed ds })
 unfolding batchLines renderBatches every
 batches-read m [] bs j h e = ap (λ (u : List Batch). accepted (record { m = m; batches = u })) (sym (append-nil bs))
@@ -136,16 +152,16 @@ batches-read m (d ∷ ds) bs j h e =
 -- ---- the file
 
 -- the parts of a description within the limits
-pub record WithinLimits (d : Book) : Type 0 where
+pub record WithinLimits (d : Description) : Type 0 where
   pub instruments : goodInstruments (d .m) ≡ true
-  pub room : leb (size d) maxBatches ≡ true
+  pub room : leb (length (d .batches)) maxBatches ≡ true
   pub batches : every (batchWithinLimits (d .m)) (d .batches) ≡ true
 
-pub within-is : (d : Book) → withinLimits d ≡ true → WithinLimits d
+pub within-is : (d : Description) → withinLimits d ≡ true → WithinLimits d
 unfolding withinLimits
 within-is d e =
     let r = and-right (goodInstruments (d .m)) _ e in
-    record { instruments = and-left _ _ e; room = and-left _ _ r; batches = and-right (leb (size d) maxBatches) _ r }
+    record { instruments = and-left _ _ e; room = and-left _ _ r; batches = and-right (leb (length (d .batches)) maxBatches) _ r }
 
 few : (m : ℕ) → goodInstruments m ≡ true → m ≤ 24
 unfolding goodInstruments
@@ -165,9 +181,9 @@ head-read m n r e f =
       f,
     )
 
-pub read-render : (d : Book) → withinLimits d ≡ true → read (render d) ≡ accepted (bookSaid d)
+pub read-render : (d : Description) → withinLimits d ≡ true → read (render d) ≡ accepted (bookSaid d)
 unfolding read render
 read-render d e =
     let f = within-is d e in
-    rw (head-read (d .m) (size d) (renderBatches (d .batches)) (f .instruments) (f .room))
+    rw (head-read (d .m) (length (d .batches)) (renderBatches (d .batches)) (f .instruments) (f .room))
     (batches-read (d .m) (d .batches) [] 2 (few (d .m) (f .instruments)) (f .batches))

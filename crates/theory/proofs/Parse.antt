@@ -10,13 +10,13 @@ use borrow.Author.Tests.{eqb-true, eqb-false, ne-eqb, not-true}
 use Rattle.rules.specs.Fold.{_and_, _or_, mem, every}
 use Rattle.rules.specs.Refusal.{Refusal}
 use Rattle.rules.specs.Sheet.{Book, Batch, maxBatches, goodInstruments, goodMinutes, isInstrument, distinct, goodList}
-use Rattle.rules.specs.Field.{Field, value, fault, field}
-use Rattle.rules.specs.Read.{Part, gives, refuses, andThen, orRefuse, fieldPart, numberAt, endOfLine, Head, headLine, instrumentsAt, batchLine, Reading, accepted, refusedAt, onLine, batchLines, read}
-use Rattle.rules.specs.Render.{columns, fields, line, renderBatch, renderBatches, render, batchWithinLimits, withinLimits, placed, bookSaid}
+use Rattle.rules.specs.Field.{Field, value, blank, fault, field}
+use Rattle.rules.specs.Read.{Part, gives, refuses, andThen, orRefuse, fieldPart, numberAt, blankZero, placeAt, endOfLine, Head, headLine, instrumentsAt, batchLine, Reading, accepted, refusedAt, onLine, batchLines, read}
+use Rattle.rules.specs.Render.{columns, fields, line, Given, numbered, leftBlank, givenNumber, givenColumns, Described, Description, renderBatch, renderBatches, render, batchWithinLimits, withinLimits, placed, bookSaid}
 use Rattle.theory.proofs.Logic.{and-left, and-right, and-mk, not-mk, or-none, or-skip}
 use Rattle.theory.proofs.Member.{mem-append}
-use Rattle.theory.proofs.Field.{field-value}
-use Rattle.theory.proofs.Format.{line-rest}
+use Rattle.theory.proofs.Field.{field-value, field-blank}
+use Rattle.theory.proofs.Format.{line-rest, batch-rest}
 
 -- ---- a part that gives, and what the rest of a proof is told of it
 
@@ -64,6 +64,18 @@ number-gives r v s e = from (field r) refl e
         let a : w ≡ v = cc in
         let b : drop 6 r ≡ s = cc in
         field-value r w q .1 ∙ ap₂ (λ (x : ℕ) (u : List ℕ). columns 6 x ++ u) a b
+    from blank q h = no-part h
+    from fault q h = no-part h
+
+-- a place: its columns are those of a number, or blank
+place-gives : {Y C : Type 0} {y : Y} {s : List ℕ} (r : List ℕ) (next : ℕ → List ℕ → Part Y) → andThen (placeAt r) next ≡ gives y s
+    → ((p : Given) (u : List ℕ) → givenColumns p ++ u ≡ r → next (givenNumber p) u ≡ gives y s → C) → C
+unfolding placeAt
+place-gives {C = C} {y = y} {s = s} r next e f = from (field r) refl e
+  where
+    from : (g : Field) → field r ≡ g → andThen (fieldPart (blankZero g) (drop 6 r)) next ≡ gives y s → C
+    from (value v) q h = f (numbered v) (drop 6 r) (sym (field-value r v q .1)) h
+    from blank q h = f leftBlank (drop 6 r) (sym (field-blank r q)) h
     from fault q h = no-part h
 
 -- a number before further fields
@@ -112,11 +124,18 @@ instruments-wrote m (suc c) l r k s d e =
       apart = t .apart;
     }))
 
+-- all of them are instruments
+pub instruments-ranged : (m c : ℕ) (r l s : List ℕ) → instrumentsAt m c [] r ≡ gives l s → every (isInstrument m) l ≡ true
+unfolding distinct
+instruments-ranged m c r l s e =
+    let x = instruments-wrote m c [] r l s refl e in
+    subst (λ (k : List ℕ). every (isInstrument m) k ≡ true) (x .all) (x .ranged)
+
 -- ---- a batch line
 
 -- the description that a batch line is written from
-record Described (m : ℕ) (r : List ℕ) (b : Batch) (s : List ℕ) : Type 0 where
-  d : Batch
+record LineWrote (m : ℕ) (r : List ℕ) (b : Batch) (s : List ℕ) : Type 0 where
+  d : Described
   fit : batchWithinLimits m d ≡ true
   same : placed d ≡ b
   wrote : renderBatch d ++ s ≡ r
@@ -133,23 +152,22 @@ unfolding distinct
 counted m c r r₁ l s e o h =
     let x = instruments-wrote m c [] r₁ l s refl h in
     let n : c ≡ length l = sym (x .count) ∙ ap length (x .all) in (
-      good-list m l (subst (λ (i : ℕ). leb 1 i and leb i m ≡ true) n o)
-          (subst (λ (k : List ℕ). every (isInstrument m) k ≡ true) (x .all) (x .ranged)) (x .apart),
+      good-list m l (subst (λ (i : ℕ). leb 1 i and leb i m ≡ true) n o) (instruments-ranged m c r₁ l s h) (x .apart),
       number-wrote r (length l) r₁ l s (e ∙ ap (λ (i : ℕ). gives i r₁) n)
           (ap (λ (k : List ℕ). fields k ++ s) (sym (x .all)) ∙ x .wrote),
     )
 
-batch-wrote : (m : ℕ) (r : List ℕ) (b : Batch) (s : List ℕ) → batchLine m r ≡ gives b s → Described m r b s
+batch-wrote : (m : ℕ) (r : List ℕ) (b : Batch) (s : List ℕ) → batchLine m r ≡ gives b s → LineWrote m r b s
 unfolding batchLine batchWithinLimits
 batch-wrote m r b s e =
     then-gives (numberAt r) _ e (λ t r₁ e₁ h₁.
     or-gives (goodMinutes t) _ _ h₁ (λ o₁ h₂.
-    then-gives (numberAt r₁) _ h₂ (λ p r₂ e₂ h₃.
+    place-gives r₁ _ h₂ (λ p r₂ e₂ h₃.
     then-gives (numberAt r₂) _ h₃ (λ c r₃ e₃ h₄.
     or-gives (leb 1 c and leb c m) _ _ h₄ (λ o₂ h₅.
     then-gives (instrumentsAt m c [] r₃) _ h₅ (λ l r₄ e₄ h₆.
     end-gives r₄ _ h₆ (λ r₅ e₅ h₇.
-    or-gives (eqb p 0 or mem p l) _ _ h₇ (λ o₃ h₈.
+    or-gives (eqb (givenNumber p) 0 or mem (givenNumber p) l) _ _ h₇ (λ o₃ h₈.
     gave h₈ (λ same z.
     let g = counted m c r₂ r₃ l r₄ e₃ o₂ e₄ in
     let w : 10 ∷ s ≡ r₄ = ap (λ (u : List ℕ). 10 ∷ u) (sym z) ∙ sym e₅ in
@@ -158,17 +176,17 @@ batch-wrote m r b s e =
       fit = and-mk _ _ o₁ (and-mk _ _ (g .0) o₃);
       same = same;
       wrote =
-          line-rest (t ∷ p ∷ length l ∷ l) s
-          ∙ number-wrote r t r₁ (p ∷ length l ∷ l) (10 ∷ s) e₁
-          (number-wrote r₁ p r₂ (length l ∷ l) (10 ∷ s) e₂
-          (ap (λ (u : List ℕ). fields (length l ∷ l) ++ u) w ∙ g .1));
+          batch-rest (record { minutes = t; list = l; place = p }) s
+          ∙ ap (λ (u : List ℕ). columns 6 t ++ u)
+          (ap (λ (u : List ℕ). givenColumns p ++ u) (ap (λ (u : List ℕ). fields (length l ∷ l) ++ u) w ∙ g .1) ∙ e₂)
+          ∙ sym (number-gives r t r₁ e₁);
     })))))))))
 
 -- ---- the batch lines
 
 -- the descriptions that batch lines are written from, after the batches bs
 record Lines (m c : ℕ) (bs : List Batch) (r : List ℕ) (k : Book) : Type 0 where
-  ds : List Batch
+  ds : List Described
   count : length ds ≡ c
   fit : every (batchWithinLimits m) ds ≡ true
   same : record { m = m; batches = bs ++ map placed ds } ≡ k
@@ -229,7 +247,7 @@ head-wrote r h s e =
     })))))))
 
 pub read-is-render : (s : List ℕ) (k : Book) → read s ≡ accepted k
-    → (d : Book) × (withinLimits d ≡ true) × (bookSaid d ≡ k) × (render d ≡ s)
+    → (d : Description) × (withinLimits d ≡ true) × (bookSaid d ≡ k) × (render d ≡ s)
 unfolding read withinLimits render
 read-is-render s k e =
     line-accepted 1 (headLine s) _ e (λ h r e₁ h₁.

@@ -14,7 +14,7 @@ use Rattle.rules.specs.Sheet.{Batch, Book, size, batch, noBatchHere, isBatch, h
 use Rattle.rules.specs.Edit.{Edit, add, withdraw, requalify, move, Edited, edited, unless, kept, without, withBatch, edit}
 use Rattle.rules.specs.Instance.{Assignment, Job, noJob, n, jobOf, instance, places, minutesOf, eligible}
 use Rattle.rules.specs.Read.{accepted, placeOr, read}
-use Rattle.rules.specs.Render.{batchWithinLimits, withinLimits, placed, bookSaid}
+use Rattle.rules.specs.Render.{givenNumber, Described, Description, batchWithinLimits, withinLimits, placed, bookSaid}
 use Rattle.rules.specs.Run.{placeAll, withPlaces}
 use Rattle.theory.proofs.Logic.{byTest, conflict, and-left, and-right, and-mk, or-cases}
 use Rattle.theory.proofs.Member.{mem-head, every-append, every-one, every-at, every-set, every-mem}
@@ -93,26 +93,26 @@ place-listed zero l h e = first-listed l h
 place-listed (suc p) l h e =
     or-cases (eqb (suc p) 0) (mem (suc p) l) e (λ t. absurd (omega (arith, eqb-true (suc p) 0 t))) (λ t. t)
 
-within-good : (m : ℕ) (b : Batch) → batchWithinLimits m b ≡ true → goodBatch m (placed b) ≡ true
+within-good : (m : ℕ) (b : Described) → batchWithinLimits m b ≡ true → goodBatch m (placed b) ≡ true
 within-good m b e =
     let f = batch-within-is m b e in
     is-good m (placed b) (record {
       minutes = f .minutes;
       list = f .list;
-      place = place-listed (b .place) (b .list) (good-some m (b .list) (f .list)) (f .place);
+      place = place-listed (givenNumber (b .place)) (b .list) (good-some m (b .list) (f .list)) (f .place);
     })
 
-within-every : (m : ℕ) (bs : List Batch) → every (batchWithinLimits m) bs ≡ true → every (goodBatch m) (map placed bs) ≡ true
+within-every : (m : ℕ) (bs : List Described) → every (batchWithinLimits m) bs ≡ true → every (goodBatch m) (map placed bs) ≡ true
 unfolding every
 within-every m [] e = e
 within-every m (b ∷ bs) e = and-mk _ _ (within-good m b (and-left _ _ e)) (within-every m bs (and-right (batchWithinLimits m b) _ e))
 
-pub within-sound : (d : Book) → withinLimits d ≡ true → sound (bookSaid d) ≡ true
+pub within-sound : (d : Description) → withinLimits d ≡ true → sound (bookSaid d) ≡ true
 within-sound d e =
     let f = within-is d e in
     is-sound (bookSaid d) (record {
       instruments = f .instruments;
-      room = omega (arith, length-map (d .batches) placed, leb-true (size d) maxBatches (f .room));
+      room = omega (arith, length-map (d .batches) placed, leb-true (length (d .batches)) maxBatches (f .room));
       batches = within-every (d .m) (d .batches) (f .batches);
     })
 

@@ -45,7 +45,10 @@ pub fn largest(seed: u64, count: usize) -> Vec<Case> {
     let mut rng = Rng::new(seed);
     let line = |rng: &mut Rng| Line {
         length: rng.within(1, 1440),
-        place: rng.within(0, 24),
+        place: match rng.below(4) {
+            0 => None,
+            _ => Some(rng.within(0, 24)),
+        },
         list: gen::list(rng, 24, 24),
     };
     let case = |_| {
@@ -72,6 +75,11 @@ pub fn damaged(seed: u64, count: usize) -> Vec<Case> {
     (0..count).map(case).collect()
 }
 
+/// A place for this list: left blank, 0, the first listed or the last.
+fn place(rng: &mut Rng, list: &[u32]) -> Option<u32> {
+    *rng.pick(&[None, Some(0), list.first().copied(), list.last().copied()])
+}
+
 /// One small sheet spoilt at every byte: the byte changed, another put before
 /// it, the byte left out, and the file cut there or carried on from there.
 pub fn every_byte(seed: u64) -> Vec<Case> {
@@ -81,7 +89,7 @@ pub fn every_byte(seed: u64) -> Vec<Case> {
     draft.lines.truncate(rng.within(1, 3) as usize);
     for line in &mut draft.lines {
         line.list.truncate(rng.within(1, 6) as usize);
-        line.place = *rng.pick(&[0, line.list[0], *line.list.last().unwrap()]);
+        line.place = place(&mut rng, &line.list);
     }
     let file = draft.render();
     let mut cases = Vec::new();
@@ -121,7 +129,7 @@ pub fn every_field(seed: u64) -> Vec<Case> {
         let list = gen::list(&mut rng, 24, 24);
         draft.lines.push(Line {
             length: rng.within(1, 1440),
-            place: *rng.pick(&[0, list[0], list[23]]),
+            place: place(&mut rng, &list),
             list,
         });
     }
@@ -174,6 +182,8 @@ enum Change {
     Batches,
     /// Another number in the third field of a line, its list kept.
     Count { line: usize, count: u32 },
+    /// Blanks in some field of a line; the place may be left so.
+    Blank { line: usize },
     /// Other bytes in place of a line's LF.
     End { line: usize },
     /// Bytes after the last line.
@@ -192,6 +202,13 @@ impl Change {
                     if let Some(field) = file.get_mut(start + 12..start + 18) {
                         field.copy_from_slice(format!("{count:>6}").as_bytes());
                     }
+                }
+            }
+            Change::Blank { line } => {
+                if let Some(start) = line_start(file, line) {
+                    let next = line_start(file, line + 1).unwrap_or(file.len());
+                    let field = rng.below((next - start) as u64 / 6) as usize;
+                    file[start + 6 * field..][..6].fill(b' ');
                 }
             }
             Change::End { line } => {
@@ -221,7 +238,7 @@ fn fault(rng: &mut Rng, draft: &mut Draft) -> Option<Change> {
     // A first fault may have spoilt the number of instruments.
     let m = draft.instruments.clamp(1, 24);
     let at = rng.below(draft.lines.len() as u64) as usize;
-    let kind = rng.below(16);
+    let kind = rng.below(18);
     let line = &mut draft.lines[at];
     if line.list.is_empty() {
         return Some(Change::Tail);
@@ -244,7 +261,7 @@ fn fault(rng: &mut Rng, draft: &mut Draft) -> Option<Change> {
         9..=11 => {
             let strange = rng.within(1, m + 1);
             let far = *rng.pick(&[25, 32, 33, 256, 65_536]) + line.list[item];
-            line.place = if rng.once_in(3) { far } else { strange };
+            line.place = Some(if rng.once_in(3) { far } else { strange });
         }
         12 => {
             let count = *rng.pick(&[0, 1, m - 1, m, m + 1, 25, 256, 999_999]);
@@ -254,6 +271,11 @@ fn fault(rng: &mut Rng, draft: &mut Draft) -> Option<Change> {
             });
         }
         13 => return Some(Change::Tail),
+        14 | 15 => {
+            return Some(Change::Blank {
+                line: rng.within(1, at as u32 + 2) as usize,
+            })
+        }
         _ => {
             return Some(Change::End {
                 line: rng.within(1, at as u32 + 2) as usize,
@@ -282,7 +304,9 @@ pub fn edits(seed: u64, count: usize) -> Vec<Case> {
             // Short lines keep the stream short.
             for line in &mut draft.lines {
                 line.list.truncate(4);
-                line.place = line.place * (line.list.contains(&line.place) as u32);
+                if line.given().is_some_and(|j| !line.list.contains(&j)) {
+                    line.place = *rng.pick(&[Some(0), None]);
+                }
             }
         }
         // The second planner goes along, so that most numbers hit something.

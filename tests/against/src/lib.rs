@@ -14,7 +14,7 @@ use std::sync::atomic::{AtomicUsize, Ordering};
 use std::sync::Mutex;
 use std::thread;
 
-use second::{Answer, Call, Plan, Review, Sheet, Trial, Verdict};
+use second::{gen, Answer, Call, Plan, Review, Sheet, Trial, Verdict};
 
 /// A sheet's bytes, good or bad, and calls on the sheet.
 #[derive(Clone, Debug)]
@@ -53,12 +53,12 @@ impl Case {
             Ok(sheet) => sheet,
             Err(fault) => {
                 let number = fault.refusal.number();
-                seen.read(number, fault.line);
+                seen.refused(&self.sheet, number, fault.line);
                 writeln!(text, "R {number} {}", fault.line).unwrap();
                 return text;
             }
         };
-        seen.sheets += 1;
+        seen.sheet(&self.sheet);
         for call in &self.calls {
             let answer = second::apply(&mut sheet, call);
             seen.answer(call, &answer, sheet.instruments());
@@ -155,12 +155,16 @@ fn put_content(text: &mut String, sheet: &Sheet) {
 #[derive(Clone, Debug, Default)]
 pub struct Seen {
     pub cases: usize,
-    /// Sheets that were read without a fault.
+    /// Sheets that were read without a fault, and how many of their places
+    /// were left blank.
     pub sheets: usize,
+    pub blank: usize,
     /// By refusal number; 0 counts calls that were not refused.
     pub refusals: [usize; 10],
-    /// By refusal number, how often reading was refused at each line.
+    /// By refusal number, how often reading was refused at each line, and how
+    /// often at one with its place left blank.
     pub lines: [Vec<usize>; 10],
+    pub at_blank: [usize; 10],
     /// By kind of call and by refusal number.
     pub calls: [[usize; 10]; 8],
     /// Reviews of sheets on which some batch gains, and on which none does.
@@ -209,7 +213,14 @@ impl Trials {
 }
 
 impl Seen {
-    fn read(&mut self, number: u32, line: u32) {
+    /// Count a sheet that was read without a fault.
+    pub fn sheet(&mut self, sheet: &[u8]) {
+        self.sheets += 1;
+        self.blank += gen::blank_places(sheet);
+    }
+
+    /// Count a sheet that was refused.
+    fn refused(&mut self, sheet: &[u8], number: u32, line: u32) {
         let (number, line) = (number as usize, line as usize);
         self.refusals[number] += 1;
         let lines = &mut self.lines[number];
@@ -217,6 +228,9 @@ impl Seen {
             lines.resize(line + 1, 0);
         }
         lines[line] += 1;
+        let text = sheet.split(|&b| b == b'\n').nth(line - 1);
+        let place = text.and_then(|text| text.get(6..12));
+        self.at_blank[number] += (line > 1 && place == Some(b"      ")) as usize;
     }
 
     /// Count a call on a sheet of `m` instruments by what it was answered.
@@ -285,6 +299,7 @@ impl Seen {
     pub fn add(&mut self, other: &Seen) {
         self.cases += other.cases;
         self.sheets += other.sheets;
+        self.blank += other.blank;
         self.gaining += other.gaining;
         self.settled += other.settled;
         self.trials.add(&other.trials);
@@ -293,6 +308,7 @@ impl Seen {
         self.moved += other.moved;
         for number in 0..10 {
             self.refusals[number] += other.refusals[number];
+            self.at_blank[number] += other.at_blank[number];
             let (ours, theirs) = (&mut self.lines[number], &other.lines[number]);
             ours.resize(ours.len().max(theirs.len()), 0);
             for (sum, count) in ours.iter_mut().zip(theirs) {
@@ -306,11 +322,16 @@ impl Seen {
 
     /// What a test prints of it.
     pub fn summary(&self) -> String {
-        let (cases, sheets) = (self.cases, self.sheets);
+        let (cases, sheets, blank) = (self.cases, self.sheets, self.blank);
         let (made, refusals) = (self.refusals[0], &self.refusals[1..=8]);
         let mut text = format!(
-            "{cases} cases, {sheets} read, {made} calls made, refusals 1 to 8: {refusals:?}"
+            "{cases} cases, {sheets} read with {blank} blank places, {made} calls made, \
+             refusals 1 to 8: {refusals:?}"
         );
+        if self.sheets < self.cases {
+            let at_blank = &self.at_blank[1..=5];
+            write!(text, ", 1 to 5 at a line with a blank place: {at_blank:?}").unwrap();
+        }
         if self.trials.steps > 0 {
             let (some, none) = (self.gaining, self.settled);
             write!(

@@ -61,6 +61,7 @@ fn reviews_and_trials() {
     let seen = compare_runs(120, |run| cases::reviews_and_trials(run, 100));
     println!("{}", seen.summary());
     assert_eq!((seen.cases, seen.sheets), (12_000, 12_000));
+    assert!(seen.blank >= 50_000, "{} blank places", seen.blank);
     let reviews = seen.calls[5][0];
     assert_eq!(reviews, seen.gaining + seen.settled);
     assert!(reviews >= 12_000);
@@ -94,6 +95,7 @@ fn runs() {
     let seen = compare_runs(120, |run| cases::runs(run, 100));
     println!("{}", seen.summary());
     assert_eq!((seen.cases, seen.sheets), (12_000, 12_000));
+    assert!(seen.blank >= 50_000, "{} blank places", seen.blank);
     for kind in 1..=7 {
         assert!(seen.calls[kind][0] >= 4_000, "calls of kind {kind}");
     }

@@ -62,11 +62,16 @@ fn known_texts() {
         case(&SHEET.replace("20     1", "20     2"), &[]),
         case(&format!("{SHEET} "), &[]),
         case("     1     0\n", &[]),
+        case("     3     1\n     5           2     3     1\n", &[]),
+        case(&SHEET.replace("30     1", "30      "), &[]),
+        case(&SHEET.replace("    30", "      "), &[]),
+        case(&SHEET.replace("1     1\n", "1      \n"), &[]),
     ];
     let expected = "S 2 3\n30 1 1 2\n20 1 1\n10 1 1 2\n\
         0\n5\n5\n6\n6\n0\n3\n3\n4\n4\n0\n0\n6\n0\n0\n\
         S 2 4\n30 1 1\n10 1 1 2\n1440 2 2\n7 2 1 2\n\
-        R 1 1\nR 2 1\nR 1 2\nR 3 2\nR 4 3\nR 5 3\nR 1 5\nS 1 0\n";
+        R 1 1\nR 2 1\nR 1 2\nR 3 2\nR 4 3\nR 5 3\nR 1 5\nS 1 0\n\
+        S 3 1\n5 3 1 3\nS 2 3\n30 1 1 2\n20 1 1\n10 1 1 2\nR 1 2\nR 1 3\n";
     assert_eq!(text(&stream.concat()), expected);
 }
 
@@ -131,6 +136,7 @@ fn sound_sheets() {
     });
     println!("{}", seen.summary());
     assert_eq!((seen.cases, seen.sheets), (22_100, 22_100));
+    assert!(seen.blank >= 50_000, "{} blank places", seen.blank);
 }
 
 #[test]
@@ -149,6 +155,12 @@ fn damaged_sheets() {
     for number in [1, 3, 4, 5] {
         assert!(seen.spread(number) >= 100, "lines of refusal {number}");
     }
+    // A blank place is taken, and hides no other fault of its line.
+    assert!(seen.blank >= 1_000, "{} blank places", seen.blank);
+    for number in [1, 3, 4] {
+        assert!(seen.at_blank[number] >= 300, "refusal {number} at a blank");
+    }
+    assert_eq!(seen.at_blank[5], 0);
 }
 
 #[test]
@@ -156,6 +168,7 @@ fn edit_lists() {
     let seen = compare_runs(100, |run| cases::edits(run, 220));
     println!("{}", seen.summary());
     assert_eq!((seen.cases, seen.sheets), (22_000, 22_000));
+    assert!(seen.blank >= 50_000, "{} blank places", seen.blank);
     for number in 3..=7 {
         assert!(seen.refusals[number] >= 500, "refusal {number}");
     }

@@ -178,9 +178,10 @@ pub struct Plans {
     pub small: usize,
     pub middle: usize,
     pub largest: usize,
-    /// Batches with a place given, and without.
+    /// Batches with a place given, with place 0 and with a blank one.
     pub given: usize,
     pub open: usize,
+    pub blank: usize,
     /// Groups of no instrument, of some and of all.
     pub none: usize,
     pub some: usize,
@@ -246,6 +247,7 @@ impl Plans {
         for line in sheet.split(|&b| b == b'\n').skip(1).take(n) {
             match &line[6..12] {
                 b"     0" => self.open += 1,
+                b"      " => self.blank += 1,
                 _ => self.given += 1,
             }
         }
@@ -271,6 +273,7 @@ impl Plans {
         self.largest += other.largest;
         self.given += other.given;
         self.open += other.open;
+        self.blank += other.blank;
         self.none += other.none;
         self.some += other.some;
         self.all += other.all;

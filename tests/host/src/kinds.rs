@@ -102,7 +102,7 @@ impl Kind {
             };
             Line {
                 length,
-                place,
+                place: Some(place),
                 list,
             }
         };

@@ -235,7 +235,7 @@ pub fn compare(shares: u64, make: impl Fn(u64) -> Vec<Case> + Sync) -> Met {
         for (k, mut case) in make(share).into_iter().enumerate() {
             let mut sheet = second::read(&case.sheet).expect("a sheet without a fault");
             met.seen.cases += 1;
-            met.seen.sheets += 1;
+            met.seen.sheet(&case.sheet);
             let mut text = Vec::new();
             let mut make = |sheet: &mut Sheet, call: &Call| {
                 let answer = second::apply(sheet, call);

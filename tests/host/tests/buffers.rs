@@ -122,10 +122,22 @@ fn bytes_beside_the_sheet() {
     assert!(refusals[1] >= 1_000);
 }
 
+/// The sheet with this text in those of the fields that are blank.
+fn filled(sheet: &[u8], starts: Vec<usize>, text: &[u8; 6]) -> Vec<u8> {
+    let mut sheet = sheet.to_vec();
+    for at in starts {
+        let field = &mut sheet[at..at + 6];
+        if *field == *b"      " {
+            field.copy_from_slice(text);
+        }
+    }
+    sheet
+}
+
 /// A planner that is right but for one thing.
 type Cheat = (&'static str, fn(&[u8], &mut [u8]) -> Hosted);
 
-const CHEATS: [Cheat; 14] = [
+const CHEATS: [Cheat; 17] = [
     ("writes past the listing", |sheet, listing| {
         let hosted = plan(sheet, listing);
         if let Some(next) = listing.get_mut(hosted.length as usize) {
@@ -215,6 +227,15 @@ const CHEATS: [Cheat; 14] = [
         let refusal = hosted.refusal - (hosted.refusal == 5) as u32;
         Hosted { refusal, ..hosted }
     }),
+    ("refuses a blank place", |sheet, listing| {
+        plan(&filled(sheet, gen::places(sheet), b"     x"), listing)
+    }),
+    ("takes a blank place for 1", |sheet, listing| {
+        plan(&filled(sheet, gen::places(sheet), b"     1"), listing)
+    }),
+    ("takes any blank field for 0", |sheet, listing| {
+        plan(&filled(sheet, gen::fields(sheet), b"     0"), listing)
+    }),
     ("leaves out the last LF", |sheet, listing| {
         let mut hosted = plan(sheet, listing);
         if hosted.refusal == 0 {
@@ -232,13 +253,20 @@ const CHEATS: [Cheat; 14] = [
     }),
 ];
 
-/// Each is caught on four sheets, and the honest planner is not.
+/// Each is caught on six sheets, and the honest planner is not.
 #[test]
 fn cheats_are_caught() {
     let bad: Vec<u8> = SHEET.iter().copied().filter(|&b| b != b'3').collect();
     let mut place = SHEET.to_vec();
     place[13 + 11] = b'3';
-    let sheets: [&[u8]; 4] = [SHEET, &bad, &place, b"     1     0\n"];
+    let sheets: [&[u8]; 6] = [
+        SHEET,
+        &bad,
+        &place,
+        b"     1     0\n",
+        b"     2     1\n     5           2     2     1\n",
+        b"     1      \n",
+    ];
     let verdict = |planner: fn(&[u8], &mut [u8]) -> Hosted| -> Result<(), String> {
         let mut judge = Judge::new(planner);
         for sheet in sheets {

@@ -50,9 +50,9 @@ fn laws(draft: &Draft, listing: &Listing) {
         assert!(line.list.contains(&batch[1]), "a permitted plan");
     }
     let now = loads(draft, |i| listing.batches[i][1]);
-    let old = loads(draft, |i| match &draft.lines[i] {
-        line if line.place == 0 => line.list[0],
-        line => line.place,
+    let old = loads(draft, |i| {
+        let line = &draft.lines[i];
+        line.given().unwrap_or(line.list[0])
     });
     assert_eq!(Some(&listing.finish), now.iter().max());
     assert!(Some(&listing.finish) <= old.iter().max());

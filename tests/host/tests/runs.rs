@@ -6,7 +6,7 @@ use std::sync::atomic::{AtomicUsize, Ordering};
 
 use against::{cases, Case};
 use host::due::Due;
-use host::journal::{journal, read, GREATEST};
+use host::journal::{journal, kind, read, GREATEST};
 use host::runs::{answers_due, compare, compare_bytes, Judge, Met, Runner, BAD_JOURNAL, LEAST};
 use host::{run, Hosted};
 use second::gen;
@@ -77,6 +77,8 @@ fn known_answers() {
 ";
     let plan = "     0    30    30    20     0     0           0     1     1\n";
     assert_eq!(answer(group, "     7\n").unwrap(), plan);
+    let blank = group.replace("10     0", "10      ");
+    assert_eq!(answer(&blank, "     7\n").unwrap(), plan);
     let failure = "     0     0     9    12     1\n";
     assert_eq!(answer(group, "     6    19\n").unwrap(), failure);
     let due = answers_due(group.as_bytes(), b"     6    19\n");
@@ -108,6 +110,12 @@ fn known_refusals() {
         ("     1     1     1     1     1\n".into(), 1),
         ("     3     1     2     1\n".into(), 1),
         ("     3     1999999     1\n".into(), 1),
+        ("      \n".into(), 1),
+        ("     6      \n".into(), 1),
+        ("     4     1      \n".into(), 1),
+        ("     1     9           1\n".into(), 1),
+        ("     3     1     1      \n".into(), 1),
+        (format!("{good}           1\n"), 2),
         (format!("{good}     7"), 2),
         (format!("{good}\n{good}"), 2),
         (format!("{good}     9\n     9\n"), 2),
@@ -213,6 +221,7 @@ fn random_runs() {
     rooms_of_good_pairs(&met, met.pairs);
     let seen = &met.seen;
     assert_eq!((seen.cases, seen.sheets), (met.pairs, met.pairs));
+    assert!(seen.blank >= 50_000, "{} blank places", seen.blank);
     for kind in 1..=7 {
         assert!(seen.calls[kind][0] >= 5_000, "calls of kind {kind}");
     }
@@ -349,6 +358,40 @@ fn every_byte() {
     assert!((1..=9).all(|line| met.lines.contains(&line)));
 }
 
+/// Every field of a journal left blank in turn: it is refused at its line, and
+/// nothing is written.
+#[test]
+fn every_field_blank() {
+    let mut judge = Judge::new(run);
+    let mut rng = Rng::new(33);
+    let mut met = Met::default();
+    let mut kinds = [0; 8];
+    for _ in 0..200 {
+        let (sheet, calls) = small(&mut rng);
+        let file = journal(&calls);
+        for at in gen::fields(&file) {
+            let mut blank = file.clone();
+            blank[at..at + 6].fill(b' ');
+            let ends = file[..at].iter().filter(|&&b| b == b'\n').count();
+            let due = Due::Refused {
+                refusal: BAD_JOURNAL,
+                line: ends + 1,
+            };
+            judge
+                .rooms(&sheet, &blank, &due, 99, &mut met)
+                .unwrap_or_else(|fault| {
+                    let journal = String::from_utf8_lossy(&blank);
+                    panic!("{fault}\njournal:\n{journal}")
+                });
+            kinds[kind(&calls[ends]) as usize] += 1;
+        }
+    }
+    println!("{}, by kind of call {:?}", met.summary(), &kinds[1..]);
+    assert_eq!(met.calls[BAD_JOURNAL as usize], [met.pairs; 4]);
+    assert!((1..=12).all(|line| met.lines.contains(&line)));
+    assert!(kinds[1..].iter().all(|&count| count >= 50), "{kinds:?}");
+}
+
 /// Bytes of any value, those of a journal in any order, and fields and line
 /// ends in any order.
 #[test]
@@ -362,7 +405,9 @@ fn random_bytes() {
                 0 => (0..size).map(|_| rng.next_u64() as u8).collect(),
                 1 => (0..size).map(|_| *rng.pick(b" 1567\n")).collect(),
                 2 => {
-                    let fields = ["     1", "     2", "     5", "     6", "     7", "\n"];
+                    let fields = [
+                        "     1", "     2", "     5", "     6", "     7", "      ", "\n",
+                    ];
                     let field = |_| *rng.pick(&fields);
                     (0..size / 6).map(field).collect::<String>().into()
                 }
@@ -515,7 +560,7 @@ const SHORT: Hosted = Hosted {
     length: 0,
 };
 
-const CHEATS: [Cheat; 19] = [
+const CHEATS: [Cheat; 20] = [
     ("writes past the answers", |sheet, journal, answers| {
         let ran = run(sheet, journal, answers);
         if let Some(next) = answers.get_mut(ran.length) {
@@ -640,6 +685,15 @@ const CHEATS: [Cheat; 19] = [
             run(sheet, &journal, answers)
         },
     ),
+    ("takes blanks for 0", |sheet, journal, answers| {
+        let mut journal = journal.to_vec();
+        for at in gen::fields(&journal) {
+            if journal[at..at + 6] == *b"      " {
+                journal[at + 5] = b'0';
+            }
+        }
+        run(sheet, &journal, answers)
+    }),
     (
         "makes the calls before a bad line",
         |sheet, journal, answers| {
@@ -692,6 +746,7 @@ fn cheats_are_caught() {
         String::new(),
         format!("{good}     7"),
         format!("{good}     8\n{good}"),
+        format!("{good}     6      \n"),
     ];
     let verdict = |runner: Runner| -> Result<(), String> {
         let mut judge = Judge::new(runner);

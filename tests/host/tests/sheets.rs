@@ -4,15 +4,17 @@
 use std::sync::atomic::{AtomicUsize, Ordering};
 
 use against::{cases, Case};
-use host::check::{compare, Met};
+use host::check::{compare, Judge, Met};
+use host::due::Due;
 use host::kinds::Kind;
+use host::listing::MOST;
 use host::{plan, Hosted};
 use second::rng::Rng;
-use second::{trial, Draft, Sheet, Verdict};
+use second::{gen, trial, Draft, Sheet, Verdict};
 
 /// What a sheet's listing is, or its refusal and line.
 fn answer(sheet: &str) -> Result<String, (u32, usize)> {
-    let mut listing = vec![0; host::listing::MOST];
+    let mut listing = vec![0; MOST];
     let Hosted {
         refusal,
         line,
@@ -61,6 +63,12 @@ fn known_listings() {
     let longest = "     1     1\n  1440     0     1     1\n";
     let listing = "  1440  1440     0     0     0           0\n     0\n     1     1  1440\n";
     assert_eq!(answer(longest).unwrap(), listing);
+    // A blank place is the first listed.
+    let blank = SHEET.replace("0     1", "0      ");
+    assert_eq!(answer(&blank).unwrap(), first);
+    let blank = "     2     1\n    10           2     2     1\n";
+    let listing = "    10    10     0     0     0           0\n     0\n     1     2    10\n";
+    assert_eq!(answer(blank).unwrap(), listing);
 }
 
 #[test]
@@ -79,10 +87,53 @@ fn known_refusals() {
         (format!("{SHEET} "), (1, 5)),
         (format!("{full}{line}"), (1, 202)),
         (format!("{SHEET}{}", "\n".repeat(1 << 20)), (1, 5)),
+        // Blanks in another field than the place.
+        ("           0\n".into(), (1, 1)),
+        ("     1      \n".into(), (1, 1)),
+        (SHEET.replace("    30", "      "), (1, 2)),
+        (SHEET.replace("20     1     1", "20     1      "), (1, 3)),
+        (SHEET.replace("1     1\n", "1      \n"), (1, 3)),
+        // Five of them at the end.
+        ("     1     1\n     5     ".into(), (1, 2)),
     ] {
         let start = &sheet[..sheet.len().min(100)];
         assert_eq!(answer(&sheet), Err(refusal), "{start}");
     }
+}
+
+/// Every field left blank in turn: in the place that is 0, anywhere else it is
+/// refused at its line, and nothing is written.
+#[test]
+fn every_field_blank() {
+    let mut judge = Judge::new(plan);
+    let (mut taken, mut refused) = (0, 0);
+    for case in cases::sound(17, 150) {
+        let file = case.sheet;
+        let places = gen::places(&file);
+        for at in gen::fields(&file) {
+            let mut blank = file.clone();
+            blank[at..at + 6].fill(b' ');
+            let due = if places.contains(&at) {
+                taken += 1;
+                let mut zero = String::from_utf8(file.clone()).unwrap();
+                zero.replace_range(at..at + 6, "     0");
+                Due::Text(answer(&zero).unwrap().into_bytes())
+            } else {
+                refused += 1;
+                let ends = file[..at].iter().filter(|&&b| b == b'\n');
+                Due::Refused {
+                    refusal: 1,
+                    line: 1 + ends.count(),
+                }
+            };
+            judge.call(&blank, MOST, &due).unwrap_or_else(|fault| {
+                let sheet = String::from_utf8_lossy(&blank);
+                panic!("{fault}\nsheet:\n{sheet}")
+            });
+        }
+    }
+    println!("{taken} blank places, {refused} other blanks");
+    assert!(taken >= 1_000 && refused >= 10_000);
 }
 
 /// Every kind of buffer was met by good sheets: the first four are too short.
@@ -115,6 +166,7 @@ fn sound_sheets() {
     assert!(plans.empty >= 1_000 && plans.small >= 10_000);
     assert!(plans.middle >= 2_000 && plans.largest >= 500);
     assert!(plans.given >= 100_000 && plans.open >= 100_000);
+    assert!(plans.blank >= 100_000);
     assert!(plans.none >= 1_000 && plans.some >= 1_000 && plans.all >= 1_000);
     assert!(plans.shown >= 1_000);
     assert!(plans.worked >= 1_000 && plans.moved >= 1_000);
@@ -133,7 +185,7 @@ fn damaged_sheets() {
     assert!(met.sheets >= 40_000);
     rooms_of_good_sheets(&met);
     // Some damage leaves a good sheet, with other numbers in it.
-    assert!(met.plans.count >= 500);
+    assert!(met.plans.count >= 500 && met.plans.blank >= 1_000);
     for number in 1..=5 {
         for count in met.calls[number] {
             assert!(count >= 500, "refusal {number}");

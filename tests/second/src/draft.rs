@@ -6,9 +6,17 @@ use crate::sheet::Sheet;
 #[derive(Clone, Debug, PartialEq, Eq)]
 pub struct Line {
     pub length: u32,
-    /// The place field; 0 leaves the choice to the reader.
-    pub place: u32,
+    /// The place field: an instrument, 0, or nothing, which leaves its columns
+    /// blank. With 0 or nothing the choice is the reader's.
+    pub place: Option<u32>,
     pub list: Vec<u32>,
+}
+
+impl Line {
+    /// The instrument given, where one is.
+    pub fn given(&self) -> Option<u32> {
+        self.place.filter(|&place| place != 0)
+    }
 }
 
 /// A whole file as it is to be written. Nothing here is checked.
@@ -19,10 +27,11 @@ pub struct Draft {
 }
 
 impl Draft {
+    /// Lines by length, place and list, every place as a number.
     pub fn new(instruments: u32, lines: &[(u32, u32, &[u32])]) -> Draft {
         let line = |&(length, place, list): &(u32, u32, &[u32])| Line {
             length,
-            place,
+            place: Some(place),
             list: list.to_vec(),
         };
         Draft {
@@ -31,14 +40,24 @@ impl Draft {
         }
     }
 
+    /// The same with every place left blank.
+    pub fn without_places(mut self) -> Draft {
+        for line in &mut self.lines {
+            line.place = None;
+        }
+        self
+    }
+
     /// The file's bytes.
     pub fn render(&self) -> Vec<u8> {
         let mut out = Vec::new();
-        put_line(&mut out, &[self.instruments, self.lines.len() as u32]);
+        let batches = self.lines.len() as u32;
+        put_line(&mut out, &[Some(self.instruments), Some(batches)]);
         for line in &self.lines {
-            let mut numbers = vec![line.length, line.place, line.list.len() as u32];
-            numbers.extend(&line.list);
-            put_line(&mut out, &numbers);
+            let count = line.list.len() as u32;
+            let mut fields = vec![Some(line.length), line.place, Some(count)];
+            fields.extend(line.list.iter().copied().map(Some));
+            put_line(&mut out, &fields);
         }
         out
     }
@@ -50,9 +69,9 @@ impl Draft {
         for (i, line) in self.lines.iter().enumerate() {
             let list: Vec<u64> = line.list.iter().map(|&j| j as u64).collect();
             sheet.add(line.length as u64, &list).expect("a sound line");
-            if line.place != 0 {
+            if let Some(place) = line.given() {
                 sheet
-                    .shift(i as u64 + 1, line.place as u64)
+                    .shift(i as u64 + 1, place as u64)
                     .expect("a listed place");
             }
         }
@@ -70,7 +89,7 @@ impl From<&Sheet> for Draft {
                 .iter()
                 .map(|b| Line {
                     length: b.length,
-                    place: b.place,
+                    place: Some(b.place),
                     list: b.list.clone(),
                 })
                 .collect(),
@@ -78,9 +97,13 @@ impl From<&Sheet> for Draft {
     }
 }
 
-fn put_line(out: &mut Vec<u8>, numbers: &[u32]) {
-    for n in numbers {
-        out.extend(format!("{n:>6}").bytes());
+/// A line of fields, each a number or blank.
+fn put_line(out: &mut Vec<u8>, fields: &[Option<u32>]) {
+    for field in fields {
+        match field {
+            Some(number) => out.extend(format!("{number:>6}").bytes()),
+            None => out.extend(b"      "),
+        }
     }
     out.push(b'\n');
 }

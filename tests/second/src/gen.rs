@@ -56,7 +56,7 @@ pub fn draft(rng: &mut Rng, shape: Shape) -> Draft {
     let (shortest, longest) = shape.lengths;
     let lists = rng.below(4);
     let lengths = rng.below(4);
-    let places = rng.below(4);
+    let places = rng.below(5);
     let usual = rng.within(shortest, longest);
     let lines = (0..n).map(|_| {
         let count = match lists {
@@ -75,10 +75,11 @@ pub fn draft(rng: &mut Rng, shape: Shape) -> Draft {
             _ => rng.within(shortest, longest),
         };
         let place = match places {
-            0 => *list.iter().min().unwrap(),
-            1 => 0,
-            2 if rng.once_in(3) => 0,
-            _ => *rng.pick(&list),
+            0 => list.iter().min().copied(),
+            1 => Some(0),
+            2 => None,
+            3 if rng.once_in(2) => *rng.pick(&[Some(0), None]),
+            _ => Some(*rng.pick(&list)),
         };
         Line {
             length,
@@ -130,18 +131,19 @@ pub fn damage(rng: &mut Rng, file: &mut Vec<u8>) {
             file[rng.below(len) as usize] = byte;
         }
         _ => {
-            // Another number in some field.
+            // Another number in some field, or blanks.
             let starts: Vec<usize> = fields(file);
             if starts.is_empty() {
                 return;
             }
             let start = *rng.pick(&starts);
-            let value = match rng.below(3) {
-                0 => *rng.pick(&EDGES),
-                1 => rng.within(0, 30),
-                _ => rng.within(0, 1500),
+            let field = match rng.below(7) {
+                0 => " ".repeat(6),
+                1 | 2 => format!("{:>6}", rng.pick(&EDGES)),
+                3 | 4 => format!("{:>6}", rng.within(0, 30)),
+                _ => format!("{:>6}", rng.within(0, 1500)),
             };
-            file[start..start + 6].copy_from_slice(format!("{value:>6}").as_bytes());
+            file[start..start + 6].copy_from_slice(field.as_bytes());
         }
     }
 }
@@ -155,6 +157,20 @@ pub fn fields(file: &[u8]) -> Vec<usize> {
         at += line.len();
     }
     starts
+}
+
+/// Where the places start in a sheet's file that does so: one field after the
+/// LF of the line before.
+pub fn places(file: &[u8]) -> Vec<usize> {
+    let line_ends = (0..file.len()).filter(|&at| file[at] == b'\n');
+    let starts = line_ends.map(|at| at + 7);
+    starts.filter(|at| at + 6 <= file.len()).collect()
+}
+
+/// How many of these are left blank.
+pub fn blank_places(file: &[u8]) -> usize {
+    let blank = |&at: &usize| file[at..at + 6] == *b"      ";
+    places(file).into_iter().filter(blank).count()
 }
 
 fn edge_or(rng: &mut Rng, usual: u64) -> u64 {
@@ -251,7 +267,7 @@ pub fn hard(seed: u64) -> Sheet {
     let mut put = |length, place, list: &[u32]| {
         lines.push(Line {
             length,
-            place,
+            place: Some(place),
             list: list.to_vec(),
         });
     };

@@ -1,6 +1,7 @@
 //! A second planner for bank queue sheets, written from document 01 to be read
 //! beside it: its words are the names here, and each module says which of its
-//! sections it follows. Loads are kept; all else is found by looking.
+//! sections it follows, and which request of document 02. Loads are kept; all
+//! else is found by looking.
 //!
 //! [`draft`], [`gen`] and [`rng`] are no part of the planner: they make sheets,
 //! files and calls for tests.

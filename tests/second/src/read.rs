@@ -1,5 +1,5 @@
-//! From a file's bytes to a sheet (document 01, "The sheet"): from the front,
-//! and the first fault decides.
+//! From a file's bytes to a sheet (document 01, "The sheet"; document 02, C-11
+//! for a place left blank): from the front, and the first fault decides.
 
 use crate::sheet::{Batch, Refusal, Sheet};
 
@@ -30,11 +30,11 @@ pub fn read(bytes: &[u8]) -> Result<Sheet, Fault> {
 
 /// Line 1: how many instruments and how many batches.
 fn head(rest: &mut &[u8]) -> Result<(u32, u32), Refusal> {
-    let m = field(rest)?;
+    let m = number(rest)?;
     if !(1..=Sheet::INSTRUMENTS).contains(&m) {
         return Err(Refusal::Size);
     }
-    let n = field(rest)?;
+    let n = number(rest)?;
     if n > Sheet::BATCHES as u32 {
         return Err(Refusal::Size);
     }
@@ -43,20 +43,21 @@ fn head(rest: &mut &[u8]) -> Result<(u32, u32), Refusal> {
 }
 
 /// A batch's line, on a sheet of `m` instruments. A number is judged before
-/// the next field is read, but the place only after the line's LF.
+/// the next field is read, but the place only after the line's LF. A place
+/// left blank is place 0.
 fn batch(rest: &mut &[u8], m: u32) -> Result<Batch, Refusal> {
-    let length = field(rest)?;
+    let length = number(rest)?;
     if !(1..=Sheet::LENGTH).contains(&length) {
         return Err(Refusal::Length);
     }
-    let place = field(rest)?;
-    let count = field(rest)?;
+    let place = field(rest)?.unwrap_or(0);
+    let count = number(rest)?;
     if !(1..=m).contains(&count) {
         return Err(Refusal::List);
     }
     let mut list = Vec::new();
     for _ in 0..count {
-        let instrument = field(rest)?;
+        let instrument = number(rest)?;
         if !(1..=m).contains(&instrument) || list.contains(&instrument) {
             return Err(Refusal::List);
         }
@@ -74,19 +75,28 @@ fn batch(rest: &mut &[u8], m: u32) -> Result<Batch, Refusal> {
     })
 }
 
+/// The number in the next six columns, which may not be blank.
+fn number(rest: &mut &[u8]) -> Result<u32, Refusal> {
+    field(rest)?.ok_or(Refusal::Form)
+}
+
 /// The number in the next six columns: blanks, then at least one digit, and
-/// no 0 in front of another digit.
-fn field(rest: &mut &[u8]) -> Result<u32, Refusal> {
+/// no 0 in front of another digit. None where all six are blanks.
+fn field(rest: &mut &[u8]) -> Result<Option<u32>, Refusal> {
     let (columns, after) = rest.split_at_checked(6).ok_or(Refusal::Form)?;
     let blanks = columns.iter().take_while(|&&b| b == b' ').count();
     let digits = &columns[blanks..];
+    if digits.is_empty() {
+        *rest = after;
+        return Ok(None);
+    }
     let spare_zero = digits.len() > 1 && digits[0] == b'0';
-    if digits.is_empty() || spare_zero || !digits.iter().all(u8::is_ascii_digit) {
+    if spare_zero || !digits.iter().all(u8::is_ascii_digit) {
         return Err(Refusal::Form);
     }
     *rest = after;
     let append = |number, digit: &u8| 10 * number + (digit - b'0') as u32;
-    Ok(digits.iter().fold(0, append))
+    Ok(Some(digits.iter().fold(0, append)))
 }
 
 fn line_end(rest: &mut &[u8]) -> Result<(), Refusal> {
@@ -96,21 +106,31 @@ fn line_end(rest: &mut &[u8]) -> Result<(), Refusal> {
 
 #[cfg(test)]
 mod tests {
-    use super::field;
+    use super::{field, number};
+    use crate::sheet::Refusal;
 
-    fn number(columns: &[u8; 6]) -> Option<u32> {
+    /// What these columns hold. A field that may not be blank agrees, but for
+    /// refusing the blanks.
+    fn held(columns: &[u8; 6]) -> Result<Option<u32>, Refusal> {
         let mut rest = columns.as_slice();
-        let value = field(&mut rest).ok();
-        assert_eq!(rest.len(), if value.is_some() { 0 } else { 6 });
-        value
+        let found = field(&mut rest);
+        assert_eq!(rest.len(), if found.is_ok() { 0 } else { 6 });
+        let sure = number(&mut columns.as_slice());
+        assert_eq!(sure.ok(), found.ok().flatten(), "{columns:?}");
+        found
     }
 
-    /// The number that these columns are the text of.
-    fn by_text(columns: &[u8; 6]) -> Option<u32> {
+    /// What these columns are the text of.
+    fn by_text(columns: &[u8; 6]) -> Result<Option<u32>, Refusal> {
+        if columns == b"      " {
+            return Ok(None);
+        }
         std::str::from_utf8(columns)
             .ok()
             .and_then(|text| text.trim_start_matches(' ').parse::<u32>().ok())
             .filter(|v| format!("{v:>6}").as_bytes() == columns)
+            .map(Some)
+            .ok_or(Refusal::Form)
     }
 
     #[test]
@@ -118,26 +138,34 @@ mod tests {
         let mut text = [0u8; 6];
         for v in 0..1_000_000u32 {
             text.copy_from_slice(format!("{v:>6}").as_bytes());
-            assert_eq!(number(&text), Some(v));
+            assert_eq!(held(&text), Ok(Some(v)));
         }
     }
 
     #[test]
     fn six_bytes_from_a_small_alphabet() {
         let alphabet = [b' ', b'0', b'1', b'9', b'/', b':', 0x10, 0xb0];
+        let (mut numbers, mut blank) = (0, 0);
         for code in 0..8usize.pow(6) {
             let columns: [u8; 6] = std::array::from_fn(|i| alphabet[code >> (3 * i) & 7]);
-            assert_eq!(number(&columns), by_text(&columns), "{columns:?}");
+            let found = held(&columns);
+            assert_eq!(found, by_text(&columns), "{columns:?}");
+            numbers += matches!(found, Ok(Some(_))) as u32;
+            blank += (found == Ok(None)) as u32;
         }
+        // 0, and 1 or 9 followed by up to five digits of three.
+        assert_eq!((numbers, blank), (1 + 2 * (1 + 3 + 9 + 27 + 81 + 243), 1));
     }
 
     #[test]
     fn one_strange_byte() {
-        for byte in 0..=255u8 {
-            for column in 0..6 {
-                let mut columns = *b"  1234";
-                columns[column] = byte;
-                assert_eq!(number(&columns), by_text(&columns), "{columns:?}");
+        for text in [b"  1234", b"      "] {
+            for byte in 0..=255u8 {
+                for column in 0..6 {
+                    let mut columns = *text;
+                    columns[column] = byte;
+                    assert_eq!(held(&columns), by_text(&columns), "{columns:?}");
+                }
             }
         }
     }
@@ -145,7 +173,18 @@ mod tests {
     #[test]
     fn fewer_than_six_bytes() {
         for text in ["", " ", "1", "     ", "12345"] {
-            assert!(field(&mut text.as_bytes()).is_err());
+            assert_eq!(field(&mut text.as_bytes()), Err(Refusal::Form));
+            assert_eq!(number(&mut text.as_bytes()), Err(Refusal::Form));
+        }
+    }
+
+    /// What follows the six columns is left for the next field.
+    #[test]
+    fn more_than_six_bytes() {
+        for (text, held) in [("           1", None), ("     7     1", Some(7))] {
+            let mut rest = text.as_bytes();
+            assert_eq!(field(&mut rest), Ok(held));
+            assert_eq!(rest, &text.as_bytes()[6..]);
         }
     }
 }

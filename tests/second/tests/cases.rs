@@ -147,6 +147,65 @@ fn p9_zeros() {
 }
 
 #[test]
+fn a_blank_place_is_place_0() {
+    // All three of the first case's places are the first listed.
+    let text = std::str::from_utf8(P1).unwrap();
+    let blank = text.replace("0     1", "0      ");
+    assert_eq!(blank.len(), P1.len());
+    assert_eq!(read(blank.as_bytes()), read(P1));
+    assert_eq!(program(blank.as_bytes()), P1_LISTING);
+    let blank = three_tens().without_places();
+    assert_eq!(program(&blank.render()), program(&three_tens().render()));
+
+    // Lines for a sheet of three instruments, and the places they come to.
+    for (line, place) in [
+        ("     5           1     2\n", 2),
+        ("     5           2     3     1\n", 3),
+        ("     5           3     2     3     1\n", 2),
+        ("  1440           3     1     2     3\n", 1),
+        ("     5     0     2     3     1\n", 3),
+        ("     5     1     2     3     1\n", 1),
+    ] {
+        let file = format!("     3     1\n{line}");
+        let sheet = read(file.as_bytes()).unwrap();
+        assert_eq!(sheet.places(), [place], "{line:?}");
+    }
+    // Each line by itself.
+    let file = b"     3     3
+     5           2     3     1
+     6     1     2     3     1
+     7     0     2     2     1
+";
+    assert_eq!(read(file).unwrap().places(), [3, 1, 2]);
+}
+
+#[test]
+fn a_blank_is_refused_elsewhere() {
+    // Files with a blank in another field than the place, and its line.
+    for (file, line) in [
+        ("           0\n", 1),
+        ("     1      \n", 1),
+        ("     1     1\n           1     1     1\n", 2),
+        ("     1     1\n     5     1           1\n", 2),
+        ("     1     1\n     5                 1\n", 2),
+        ("     1     1\n     5     1     1      \n", 2),
+        ("     1     1\n     5           1      \n", 2),
+        ("     2     1\n     5     1     2           1\n", 2),
+        ("     2     1\n     5     1     2     1      \n", 2),
+        (
+            "     1     2\n     5           1     1\n           1     1     1\n",
+            3,
+        ),
+        // Five blanks are no place, and after six the count is still due.
+        ("     1     1\n     5     ", 2),
+        ("     1     1\n     5      ", 2),
+        ("     1     1\n     5          1     1\n", 2),
+    ] {
+        assert_eq!(refused(file.as_bytes()), (1, line), "{file:?}");
+    }
+}
+
+#[test]
 fn p10_longest_length() {
     assert!(read(&Draft::new(1, &[(1440, 0, &[1])]).render()).is_ok());
     assert_eq!(refused(&Draft::new(1, &[(1441, 0, &[1])]).render()), (3, 2));

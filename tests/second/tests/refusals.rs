@@ -40,7 +40,9 @@ fn some_drafts() -> Vec<Draft> {
     let mut drafts: Vec<Draft> = (0..12).map(|_| gen::draft(&mut rng, gen::SMALL)).collect();
     drafts.extend((0..3).map(|_| gen::draft(&mut rng, gen::MEDIUM)));
     drafts.push(Draft::new(1, &[]));
-    drafts.push(Draft::new(24, &[(1440, 24, &[24, 1, 2]), (1, 0, &[3])]));
+    let last = Draft::new(24, &[(1440, 24, &[24, 1, 2]), (1, 0, &[3])]);
+    drafts.push(last.clone().without_places());
+    drafts.push(last);
     drafts
 }
 
@@ -65,7 +67,6 @@ fn every_field_malformed() {
     let bad = [
         "    07",
         "     a",
-        "      ",
         "     \t",
         "\t    1",
         " 1   1",
@@ -99,6 +100,29 @@ fn every_field_malformed() {
     }
 }
 
+/// Six blanks are as malformed as those, but for the place, where they are 0.
+#[test]
+fn every_field_blank() {
+    for draft in some_drafts() {
+        let file = draft.render();
+        let places = gen::places(&file);
+        assert_eq!(places.len(), draft.lines.len());
+        for start in gen::fields(&file) {
+            let mut blank = file.clone();
+            blank[start..start + 6].fill(b' ');
+            if places.contains(&start) {
+                let mut zero = file.clone();
+                zero[start..start + 6].copy_from_slice(b"     0");
+                assert!(read(&blank).is_ok());
+                assert_eq!(read(&blank), read(&zero));
+                assert_eq!(program(&blank), program(&zero));
+            } else {
+                assert_eq!(refused(&blank), (1, line_of(&file, start)));
+            }
+        }
+    }
+}
+
 #[test]
 fn every_line_end() {
     for draft in some_drafts() {
@@ -122,9 +146,10 @@ fn every_line_end() {
 
 #[test]
 fn bytes_left_over() {
-    let ends: [&[u8]; 8] = [
+    let ends: [&[u8]; 9] = [
         b"\n",
         b" ",
+        b"      ",
         b"\0",
         b"\n\n\n",
         b"     1",
@@ -204,6 +229,31 @@ fn faults_inside_a_batch_line() {
         ("     1   257     1     1\n", 5),
         ("     1 65537     1     1\n", 5),
         ("     1999999     1     1\n", 5),
+        // A blank place is no fault and hides none.
+        ("     0           1     1\n", 3),
+        ("     1           0\n", 4),
+        ("     1           4", 4),
+        ("     1           1     4\n", 4),
+        ("     1           2     1     1\n", 4),
+        ("     1           1     x\n", 1),
+        ("     1           1     1 \n", 1),
+        ("     1           1     1     2\n", 1),
+        ("     1      \n", 1),
+        ("     1     ", 1),
+        ("     1     \n", 1),
+        ("     1     \t     1     1\n", 1),
+        ("     1\t          1     1\n", 1),
+        // A blank in another field is a fault at that field.
+        ("           9     9     9\n", 1),
+        ("      ", 1),
+        ("     0      ", 3),
+        ("     1     9           4\n", 1),
+        ("     1                 4\n", 1),
+        ("     1     9     0      \n", 4),
+        ("     1     9     1      \n", 1),
+        ("     1     1     3     1      \n", 1),
+        ("     1     1     3     1           0\n", 1),
+        ("     1     1     3     1     1      \n", 4),
         // Count.
         ("     1     1     0\n", 4),
         ("     1     1     0     1\n", 4),
@@ -257,6 +307,12 @@ fn the_first_fault_decides() {
         let file = six(2) + &six(9) + "\n" + first;
         assert_eq!(refused(file.as_bytes()), (number, 2));
     }
+    // A blank place before them changes nothing.
+    let good = "     7           1     1\n";
+    for (line, number) in all {
+        let file = six(2) + &six(3) + "\n" + good + line + good;
+        assert_eq!(refused(file.as_bytes()), (number, 3));
+    }
     // The LF of the first line comes before any batch.
     let file = text(&[&["     2", "     1", " "], &["     0"]]);
     assert_eq!(refused(&file), (1, 1));
@@ -266,8 +322,10 @@ fn the_first_fault_decides() {
 fn list_of_all_instruments() {
     for m in 1..=24u32 {
         let list: Vec<u32> = (1..=m).rev().collect();
-        let sheet = read(&Draft::new(m, &[(5, 0, &list)]).render()).unwrap();
+        let draft = Draft::new(m, &[(5, 0, &list)]);
+        let sheet = read(&draft.render()).unwrap();
         assert_eq!(sheet.batches()[0].place, m);
+        assert_eq!(read(&draft.without_places().render()), Ok(sheet));
         for bad in [0, m + 1] {
             for k in 0..m as usize {
                 let mut list = list.clone();
@@ -303,6 +361,8 @@ fn every_place() {
                 assert_eq!(refused(&file), (5, 2));
             }
         }
+        let blank = Draft::new(m, &[(5, 0, &list)]).without_places();
+        assert_eq!(read(&blank.render()).unwrap().batches()[0].place, 1);
     }
 }
 

@@ -20,7 +20,7 @@ pub fn permitted(sheet: &Sheet, places: &[u32]) -> bool {
 pub fn placed(sheet: &Sheet, places: &[u32]) -> Sheet {
     let mut draft = Draft::from(sheet);
     for (line, &place) in draft.lines.iter_mut().zip(places) {
-        line.place = place;
+        line.place = Some(place);
     }
     draft.sheet()
 }
@@ -70,7 +70,7 @@ pub fn chain(rng: &mut Rng) -> Sheet {
             };
             lines.push(Line {
                 length: rng.within(1, 12),
-                place: *rng.pick(&list),
+                place: Some(*rng.pick(&list)),
                 list,
             });
         }

@@ -1,4 +1,4 @@
-//! What document 01 says of every answer, checked without the planner's own
+//! What the documents say of every answer, checked without the planner's own
 //! ways: loads are summed anew, acts and moves are chosen again from the rules,
 //! and small sheets are compared with all of their plans.
 

@@ -50,6 +50,11 @@ impl<'a> Text<'a> {
         number(self.rest.get(6 * k..6 * k + 6)?)
     }
 
+    /// Are all six columns of that field blanks?
+    fn blank(&self, k: usize) -> bool {
+        self.rest.get(6 * k..6 * k + 6) == Some(b"      ")
+    }
+
     fn ends_after(&self, fields: usize) -> bool {
         self.rest.get(6 * fields) == Some(&b'\n')
     }
@@ -78,9 +83,12 @@ fn head_faults(text: &Text) -> Faults {
 fn line_faults(text: &Text, m: u32) -> (Faults, Line) {
     let mut faults = Faults::default();
     faults.judge(text, 0, 1..=1440, 3);
-    faults.judge(text, 1, 0..=u32::MAX, 5);
+    let place = text.field(1);
+    if place.is_none() && !text.blank(1) {
+        faults.note(1, 1, text.line);
+    }
     faults.judge(text, 2, 1..=m, 4);
-    let [length, place, count] = [0, 1, 2].map(|k| text.field(k).unwrap_or(0));
+    let [length, count] = [0, 2].map(|k| text.field(k).unwrap_or(0));
     let mut list = Vec::new();
     if (1..=m).contains(&count) {
         let last = 3 + count as usize;
@@ -95,7 +103,7 @@ fn line_faults(text: &Text, m: u32) -> (Faults, Line) {
         if !text.ends_after(last) {
             faults.note(last, 1, text.line);
         }
-        if place != 0 && !list.contains(&place) {
+        if place.is_some_and(|place| place != 0 && !list.contains(&place)) {
             faults.note(last + 1, 5, text.line);
         }
     }
@@ -143,9 +151,7 @@ fn read_laws(file: &[u8]) -> Result<Sheet, Fault> {
             // The file is the very text of the sheet, places not given apart.
             assert_eq!(draft.render(), file);
             for line in &mut draft.lines {
-                if line.place == 0 {
-                    line.place = line.list[0];
-                }
+                line.place = Some(line.given().unwrap_or(line.list[0]));
             }
             assert_eq!(Draft::from(sheet), draft);
         }
@@ -158,20 +164,30 @@ fn read_laws(file: &[u8]) -> Result<Sheet, Fault> {
 #[test]
 fn files_read_back() {
     let mut rng = Rng::new(11);
+    let (mut given, mut zero, mut blank) = (0, 0, 0);
     for shape in [gen::SMALL, gen::MEDIUM, gen::FULL, gen::LARGE] {
         for _ in 0..150 {
             let draft = gen::draft(&mut rng, shape);
             let sheet = read_laws(&draft.render()).expect("a sound file");
             assert_eq!(sheet, draft.sheet());
             assert_eq!(read(&Draft::from(&sheet).render()), Ok(sheet));
+            for line in &draft.lines {
+                match line.place {
+                    None => blank += 1,
+                    Some(0) => zero += 1,
+                    Some(_) => given += 1,
+                }
+            }
         }
     }
+    let counts = [given, zero, blank];
+    assert!(counts.into_iter().all(|count| count > 5_000), "{counts:?}");
 }
 
 #[test]
 fn damaged_files() {
     let mut rng = Rng::new(12);
-    let mut sound = 0;
+    let (mut sound, mut blank) = (0, 0);
     let mut by_number = [0; 10];
     for round in 0..30_000 {
         let shape = if round % 8 == 0 {
@@ -184,14 +200,40 @@ fn damaged_files() {
             gen::damage(&mut rng, &mut file);
         }
         match read_laws(&file) {
-            Ok(_) => sound += 1,
+            Ok(_) => {
+                sound += 1;
+                blank += (gen::blank_places(&file) > 0) as u32;
+            }
             Err(fault) => by_number[fault.refusal.number() as usize] += 1,
         }
     }
     // The damage is varied enough to meet every outcome often.
-    assert!(sound > 100, "{sound}");
+    assert!(sound > 100 && blank > 100, "{sound}, {blank} of them blank");
     assert!(by_number[1..=5].iter().all(|&c| c > 100), "{by_number:?}");
     assert_eq!(by_number[6..], [0; 4]);
+}
+
+/// Every batch line that can be made of up to six numbers, blanks and LFs.
+#[test]
+fn every_short_line() {
+    const PIECES: [&[u8]; 4] = [b"     1", b"     2", b"      ", b"\n"];
+    let (mut sound, mut blank) = (0, 0);
+    let mut lines: Vec<Vec<u8>> = vec![Vec::new()];
+    for _ in 0..=6 {
+        for line in &lines {
+            let file = [b"     2     1\n", line.as_slice()].concat();
+            if read_laws(&file).is_ok() {
+                sound += 1;
+                blank += gen::blank_places(&file);
+            }
+        }
+        let longer = |line: &Vec<u8>| PIECES.map(|piece| [line, piece].concat());
+        lines = lines.iter().flat_map(longer).collect();
+    }
+    // Two lengths. A list of one has that place or a blank one, a list of two
+    // in either order has both places or a blank one.
+    assert_eq!(sound, 2 * (2 * 2 + 2 * 3));
+    assert_eq!(blank, 2 * (2 + 2));
 }
 
 #[test]

@@ -56,7 +56,7 @@ fn enter(book: &mut Draft, call: &Call) -> Answer {
     match call {
         Call::Add { length, list } => book.lines.push(Line {
             length: *length as u32,
-            place: list[0] as u32,
+            place: Some(list[0] as u32),
             list: narrow(list),
         }),
         Call::Withdraw { number } => {
@@ -65,12 +65,11 @@ fn enter(book: &mut Draft, call: &Call) -> Answer {
         Call::Requalify { number, list } => {
             let line = &mut book.lines[*number as usize - 1];
             line.list = narrow(list);
-            if !line.list.contains(&line.place) {
-                line.place = line.list[0];
-            }
+            let kept = line.place.filter(|place| line.list.contains(place));
+            line.place = Some(kept.unwrap_or(line.list[0]));
         }
         Call::Move { number, instrument } => {
-            book.lines[*number as usize - 1].place = *instrument as u32;
+            book.lines[*number as usize - 1].place = Some(*instrument as u32);
         }
         // The rest is worked out on a sheet made from the book.
         Call::Review => {

@@ -4,7 +4,7 @@ use borrow.Author.Needs.{needs}
 use borrow.Author.Tests.{eq-eqb, ne-eqb}
 use lib.ListN.{length, drop}
 use Rattle.rules.specs.Journal.{callAt}
-use Rattle.sheet.proofs.Lines.{next-at}
+use Rattle.fields.proofs.Reading.{next-at}
 use Rattle.journal.proofs.Calls.{add-entry, withdraw-entry, requalify-entry, move-entry, trial-entry}
 use Rattle.journal.proofs.entry.call_at.Statement.{statement}
 use Rattle.journal.proofs.entry.call_at.Tie as tie

@@ -5,10 +5,10 @@ use mathlib.Core.List.{List}
 use native.Mathlib.Omega.{arith}
 use borrow.Author.Needs.{needs}
 use lib.ListN.{length, drop}
-use Rattle.rules.specs.Read.{gives, endOfLine}
+use Rattle.rules.specs.Read.{gives, endOfLine, numberAt}
 use Rattle.rules.specs.Journal.{callAt, callLine}
-use Rattle.sheet.specs.declared.read.Field.{Field}
-use Rattle.sheet.proofs.Lines.{NumberRead, FieldSays, field-says, end-missing, end-other, end-there, next-at}
+use Rattle.sheet.proofs.Scan.{failed, passed}
+use Rattle.fields.proofs.Reading.{NumberRead, field-number, field-none, end-room, end-missing, end-there, next-at}
 use Rattle.journal.specs.Entry.{entryOf}
 use Rattle.journal.proofs.Calls.{call-leaves, EntryRead, given, ending-is, then-faulty}
 use Rattle.journal.proofs.entry.entry_at.Statement.{statement}
@@ -19,10 +19,7 @@ abbrev text : tie.Start → List ℕ
 text c = c .args .s .now
 
 abbrev start : tie.After-field-at → tie.Start
-start c = c .before .before .before
-
-first : {f : Field} (c : tie.After-field-at) → c .field-at .result ≡ f → FieldSays (text (start c)) (start c .args .at) f
-first c = field-says (text (start c)) (start c .args .at) (start c .pre) (c .field-at .ensures)
+start c = c .before .before
 
 -- the kind was read
 abbrev start1 : tie.After-known-told → tie.Start
@@ -31,8 +28,8 @@ start1 c = start (c .before .before .before)
 abbrev kind-of : tie.After-known-told → ℕ
 kind-of c = c .before .kind .given .0 .0
 
-kind-read : (c : tie.After-known-told) → NumberRead (text (start1 c)) (start1 c .args .at) (kind-of c)
-kind-read c = first (c .before .before .before) (c .before .kind .given .1)
+kind-read : (c : tie.After-known-told) → let b = start1 c in NumberRead (numberAt (drop (b .args .at) (text b))) (text b) (b .args .at) (kind-of c)
+kind-read c = field-number (text (start1 c)) (start1 c .args .at) (c .before .before .before .field-at .ensures) (c .before .kind .given .1)
 
 abbrev rest : tie.After-known-told → List ℕ
 rest c = drop (start1 c .args .at + 6) (text (start1 c))
@@ -56,30 +53,21 @@ onward : (c : tie.Else1) → callLine (drop (start1 (kind-known c) .args .at) (t
 unfolding callLine
 onward c = rw (kind-read (kind-known c) .number, there c .part)
 
-sub-field-at : tie.Need-sub-field-at
-sub-field-at c = search needs
-
-part-field-at-start : tie.Need-part-field-at-start
-part-field-at-start c = search needs
-
-part-field-at-end : tie.Need-part-field-at-end
-part-field-at-end c = search needs
-
 field-at-requires : tie.Need-field-at-requires
 field-at-requires c κs = search needs
 
 enum-known-kind : tie.Need-enum-known-kind
 enum-known-kind c = search needs
 
-enum-told : tie.Need-enum-told
-enum-told c = search needs
-
 none-requires : tie.Need-none-requires
 none-requires c κs = search needs
 
 returns : tie.Need-returns
 unfolding callLine
-returns c = rw (first (c .before .before .before) (c .before .enum-told .given .1)) (c .none .ensures)
+returns c =
+    let f = c .before .before in
+    let b = start f in
+    rw (field-none (text b) (b .args .at) (f .field-at .ensures) (c .before .match .keys2)) (c .none .ensures)
 
 add-second : tie.Need-add-second
 add-second c = search needs
@@ -97,56 +85,45 @@ returns-2 c =
     rw (c .none2 .ensures, kind-read (r .before) .number)
     (then-faulty (length (text (start1 (r .before)))) (callAt (kind-of (r .before)) (rest (r .before))) (r .call-at .result) _ (r .call-at .ensures) (c .before .if1 .taken))
 
+ends-at-requires : tie.Need-ends-at-requires
+ends-at-requires c κs = search needs
+
 none-requires-3 : tie.Need-none-requires-3
 none-requires-3 c κs = search needs
 
 returns-3 : tie.Need-returns-3
-returns-3 c = rw (onward (c .before .before), end-missing (text2 (c .before .before)) _ _ (c .before .if2 .taken)) (c .none3 .ensures)
+returns-3 c =
+    let e = c .before .before in
+    rw (onward (e .before), end-missing (text2 (e .before)) _ _ (failed (e .ends-at .ensures) (c .before .if2 .taken))) (c .none3 .ensures)
 
-shared-slice-read-if3 : tie.Need-shared-slice-read-if3
-shared-slice-read-if3 c = search needs
-
-none-requires-4 : tie.Need-none-requires-4
-none-requires-4 c κs = search needs
+add-t11 : tie.Need-add-t11
+add-t11 c = let e = c .before in omega (arith, end-room (text2 (e .before .before)) (end (e .before .before)) (passed (e .before .ends-at .ensures) (e .if2 .left)))
 
 returns-4 : tie.Need-returns-4
 returns-4 c =
-    let e : tie.Else2 = c .before .before .before in
-    rw (onward (e .before), end-other (text2 (e .before)) _ _ (e .if2 .left) (c .before .if3 .taken)) (c .none4 .ensures)
-
-add-t10 : tie.Need-add-t10
-add-t10 c = search needs
-
-returns-5 : tie.Need-returns-5
-returns-5 c =
-    let e : tie.Else2 = c .before .before .before in
-    let s = text2 (e .before) in
-    let g = there (e .before) in
-    let at : ℕ = end (e .before) in
-    let h : at < length s = e .if2 .left in
-    rw (onward (e .before), end-there s _ _ h (c .before .if3 .left))
-    (ending-is (g .call) (e .before .before .call-at .result) at (at + 1) (g .same) ∙ ap (entryOf (g .call)) (next-at s (at + 1) (omega arith)))
+    let l = c .before in
+    let e = l .before .before in
+    let s = text2 e in
+    let g = there e in
+    let at : ℕ = end e in
+    let h = passed (l .before .ends-at .ensures) (l .if2 .left) in
+    rw (onward e, end-there s at _ h)
+    (ending-is (g .call) (e .before .call-at .result) at (at + 1) (g .same) ∙ ap (entryOf (g .call)) (next-at s (at + 1) (end-room s at h)))
 
 pub entry-at-spec : {M : Type 1} → statement M
 entry-at-spec =
     tie.close
     (tie.spec
-    sub-field-at
-    part-field-at-start
-    part-field-at-end
     field-at-requires
     enum-known-kind
-    enum-told
     none-requires
     returns
     add-second
     call-at-requires
     none-requires-2
     returns-2
+    ends-at-requires
     none-requires-3
     returns-3
-    shared-slice-read-if3
-    none-requires-4
-    returns-4
-    add-t10
-    returns-5)
+    add-t11
+    returns-4)

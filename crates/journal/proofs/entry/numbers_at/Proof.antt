@@ -5,9 +5,9 @@ use mathlib.Core.List.{List}
 use mathlib.Core.Logic.{⊎-elim}
 use native.Mathlib.Omega.{arith}
 use borrow.Author.Needs.{needs}
-use lib.ListN.{set}
-use Rattle.sheet.specs.declared.read.Field.{Field}
-use Rattle.sheet.proofs.Lines.{NumberRead, FieldSays, field-says}
+use lib.ListN.{drop, set}
+use Rattle.rules.specs.Read.{numberAt}
+use Rattle.fields.proofs.Reading.{NumberRead, field-number, field-none}
 use Rattle.journal.proofs.Numbers.{row-fills, row-full, NumbersSofar, none-yet, then-missing, one-more, all-read}
 use Rattle.journal.proofs.entry.numbers_at.Statement.{statement}
 use Rattle.journal.proofs.entry.numbers_at.Tie as tie
@@ -20,33 +20,22 @@ abbrev μ-loop : tie.MeasureT-loop
 
 -- the loop's turn, and the bytes
 abbrev turn : tie.After-field-at Inv-loop μ-loop → tie.At-loop Inv-loop μ-loop
-turn c = c .before .before .before
+turn c = c .before .before
 
 abbrev text : tie.At-loop Inv-loop μ-loop → List ℕ
 text t = t .before .before .args .s .now
-
--- the next field
-next-field : {f : Field} (c : tie.After-field-at Inv-loop μ-loop) → c .field-at .result ≡ f → FieldSays (text (turn c)) (turn c .loop .next) f
-next-field c = field-says (text (turn c)) (turn c .loop .next) (turn c .loop .inv .room) (c .field-at .ensures)
 
 -- a number was read
 abbrev turn1 : tie.After-known-told Inv-loop μ-loop → tie.At-loop Inv-loop μ-loop
 turn1 c = turn (c .before .before .before)
 
-x-read : (c : tie.After-known-told Inv-loop μ-loop) → NumberRead (text (turn1 c)) (turn1 c .loop .next) (c .before .x .given .0 .0)
-x-read c = next-field (c .before .before .before) (c .before .x .given .1)
+x-read : (c : tie.After-known-told Inv-loop μ-loop) →
+    let t = turn1 c in
+    NumberRead (numberAt (drop (t .loop .next) (text t))) (text t) (t .loop .next) (c .before .x .given .0 .0)
+x-read c = field-number (text (turn1 c)) (turn1 c .loop .next) (c .before .before .before .field-at .ensures) (c .before .x .given .1)
 
 loop-holds : tie.Need-loop-holds Inv-loop μ-loop
 loop-holds c = none-yet _ _ _ _ refl (c .before .pre)
-
-sub-field-at : tie.Need-sub-field-at Inv-loop μ-loop
-sub-field-at c = search needs
-
-part-field-at-start : tie.Need-part-field-at-start Inv-loop μ-loop
-part-field-at-start c = search needs
-
-part-field-at-end : tie.Need-part-field-at-end Inv-loop μ-loop
-part-field-at-end c = search needs
 
 field-at-requires : tie.Need-field-at-requires Inv-loop μ-loop
 field-at-requires c κs = search needs
@@ -54,18 +43,15 @@ field-at-requires c κs = search needs
 enum-known-x : tie.Need-enum-known-x Inv-loop μ-loop
 enum-known-x c = search needs
 
-enum-told : tie.Need-enum-told Inv-loop μ-loop
-enum-told c = search needs
-
 none-requires : tie.Need-none-requires Inv-loop μ-loop
 none-requires c κs = search needs
 
 returns : tie.Need-returns Inv-loop μ-loop
 returns c =
-    let g = c .before .before .before in
+    let g = c .before .before in
     let t = turn g in
     c .none .ensures
-    ∙ then-missing (text t) _ _ _ _ (t .loop .next) (t .loop .inv) (g .before .before .loop-test .taken) (next-field g (c .before .enum-told .given .1))
+    ∙ then-missing (text t) _ _ _ _ (t .loop .next) (t .loop .inv) (g .before .loop-test .taken) (field-none (text t) (t .loop .next) (g .field-at .ensures) (c .before .match .keys2))
 
 mul-list : tie.Need-mul-list Inv-loop μ-loop
 mul-list c = search needs
@@ -89,7 +75,7 @@ loop-again c =
     let f = t .loop .inv in
     let x = c .before .before .x .given .0 .0 in
     let r = x-read (c .before) in
-    one-more (text t) _ _ (t .loop .list) k (t .loop .next) f x _ (c .before .before .before .before .before .before .loop-test .taken) (r .number) (r .room)
+    one-more (text t) _ _ (t .loop .list) k (t .loop .next) f x _ (c .before .before .before .before .before .loop-test .taken) (r .number) (r .room)
     (⊎-elim
     (λ w. w .1 ∙ ap (λ (l : List ℕ). set l k x) (f .same) ∙ row-fills (f .numbers) k x (f .count) (w .0 .taken))
     (λ w. w .1 ∙ f .same ∙ row-full (f .numbers) k x (f .count) (w .0 .left))
@@ -108,12 +94,8 @@ numbers-at-spec =
     Inv-loop
     μ-loop
     loop-holds
-    sub-field-at
-    part-field-at-start
-    part-field-at-end
     field-at-requires
     enum-known-x
-    enum-told
     none-requires
     returns
     mul-list

@@ -2,8 +2,8 @@
 use native.Mathlib.Omega.{arith}
 use borrow.Author.Needs.{needs}
 use Rattle.sheet.proofs.Answered.{edit-answered}
-use Rattle.sheet.proofs.Scan.{failed, passed}
-use Rattle.sheet.proofs.SoundArrays.{in-range, row-fits}
+use Rattle.sheet.proofs.Scan.{failed, passed, in-range}
+use Rattle.sheet.proofs.SoundArrays.{row-fits}
 use Rattle.sheet.proofs.Edits.{add-full, add-length, add-bad, add-done}
 use Rattle.sheet.proofs.Sheet.add.Statement.{statement}
 use Rattle.sheet.proofs.Sheet.add.Tie as tie

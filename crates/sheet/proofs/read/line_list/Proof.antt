@@ -1,45 +1,314 @@
--- The list, and then the end of the line.
-use mathlib.Core.Path.{_∙_}
+-- The invariant: k of the instruments are in the row, and what is left goes on from them as the rules do. Then the LF and the place.
+use Prim.Native.Nat.{ℕ, _+_, _-_, _≤_, _<_}
+use mathlib.Core.Path.{_≡_, refl, sym, ap, _∙_}
+use mathlib.Core.Bool.{true}
+use mathlib.Core.List.{List, []}
 use native.Mathlib.Omega.{arith}
 use borrow.Author.Needs.{needs}
-use Rattle.sheet.proofs.PartsRead.{ListGiven, list-given, list-refused, some-refusal}
+use borrow.Author.Tests.{not-true, not-false}
+use lib.Dec.{leb, eqb}
+use lib.ListN.{length, take, drop}
+use lib.Seq.{getD-take}
+use Rattle.rules.specs.Fold.{_and_, _or_, mem}
+use Rattle.rules.specs.Refusal.{badPlace}
+use Rattle.rules.specs.Sheet.{Batch, isInstrument}
+use Rattle.rules.specs.Read.{Part, gives, orRefuse, numberAt, endOfLine, instrumentsAt, placeOr}
+use Rattle.theory.proofs.Member.{every-mem}
+use Rattle.theory.proofs.Parse.{instruments-ranged}
+use Rattle.sheet.specs.Represent.{padded}
+use Rattle.fields.specs.Columns.{endsLine}
+use Rattle.sheet.specs.Lines.{lineList}
+use Rattle.fields.proofs.Reading.{NumberRead, field-number, field-none, end-room, end-missing, end-there, next-at}
+use Rattle.sheet.proofs.Lines.{Row, row-used, row-padded, row-more, row-take, place-taken, place-listed, list-missing, list-strange, list-again, list-more, instrument-most, list-start, list-done}
+use Rattle.sheet.proofs.Scan.{failed, passed, in-range}
 use Rattle.sheet.proofs.read.line_list.Statement.{statement}
 use Rattle.sheet.proofs.read.line_list.Tie as tie
 
+abbrev Inv-loop : tie.InvT-loop
+Inv-loop s at line m minutes place count list₀ k₀ next₀ list k next =
+    (k ≤ count) × (next ≤ length s) × Row k list
+    × (instrumentsAt m (count - k) (take k list) (drop next s) ≡ instrumentsAt m count [] (drop at s))
+
+abbrev μ-loop : tie.MeasureT-loop
+μ-loop s at line m minutes place count list₀ k₀ next₀ list k next = count - k
+
+abbrev text : tie.At-loop Inv-loop μ-loop → List ℕ
+text t = t .before .before .args .s .now
+
+-- ---- in the loop
+
+-- a number x was read
+abbrev turn : tie.After-known-told Inv-loop μ-loop → tie.At-loop Inv-loop μ-loop
+turn c = c .before .before .before .before .before
+
+abbrev more : (c : tie.After-known-told Inv-loop μ-loop) → turn c .loop .k < turn c .before .before .args .count
+more c = c .before .before .before .before .loop-test .taken
+
+abbrev x-of : tie.After-known-told Inv-loop μ-loop → ℕ
+x-of c = c .before .x .given .0 .0
+
+x-read : (c : tie.After-known-told Inv-loop μ-loop) →
+    let t = turn c in
+    NumberRead (numberAt (drop (t .loop .next) (text t))) (text t) (t .loop .next) (x-of c)
+x-read c = field-number (text (turn c)) (turn c .loop .next) (c .before .before .before .field-at .ensures) (c .before .x .given .1)
+
+-- it is an instrument
+ranged : (c : tie.Else1 Inv-loop μ-loop) →
+    let r = c .before .before in
+    leb 1 (x-of r) and leb (x-of r) (turn r .before .before .args .m) ≡ true
+ranged c = passed (c .before .within .ensures) (c .if1 .left)
+
+-- ---- after the loop
+
+-- the rest of the line by the rules
+abbrev whole : tie.Start Inv-loop μ-loop → Part Batch
+whole b = lineList (b .args .m) (b .args .minutes) (b .args .place) (b .args .count) (drop (b .args .at) (b .args .s .now))
+
+-- what the line gives, with the list l, where the rest of the sheet is r
+abbrev judged : tie.Start Inv-loop μ-loop → List ℕ → List ℕ → Part Batch
+judged b l r =
+    orRefuse (eqb (b .args .place) 0 or mem (b .args .place) l) badPlace
+    (gives (record { minutes = b .args .minutes; list = l; place = placeOr (b .args .place) l }) r)
+
 -- the list was read
-given : (c : tie.After-enum-told) →
-    ListGiven (c .before .before .before .before .args .s .now) (c .before .before .before .before .args .at) (c .before .before .before .before .pre .0) (c .before .before .before .before .args .m) (c .before .before .before .before .args .count) (c .before .before .instruments .result)
-given c = list-given (c .before .before .before .before .args .s .now) (c .before .before .before .before .args .at) (c .before .before .before .before .pre .0) _ _ _ (c .before .before .instruments .ensures) (c .enum-told .given .1)
+abbrev list-of : tie.After-loop Inv-loop μ-loop → List ℕ
+list-of c = take (c .before .before .before .args .count) (c .before .loop .list)
 
-instruments-requires : tie.Need-instruments-requires
-instruments-requires c κs = search needs
+all-read : (c : tie.After-loop Inv-loop μ-loop) → c .before .loop .k ≡ c .before .before .before .args .count
+all-read c = omega (arith, c .before .loop .inv .0, c .loop-test .left)
 
-enum-told : tie.Need-enum-told
-enum-told c = search needs
+row : (c : tie.After-loop Inv-loop μ-loop) → Row (c .before .before .before .args .count) (c .before .loop .list)
+row c = rw (← all-read c) (c .before .loop .inv .2)
 
-refused-requires : tie.Need-refused-requires
+few : (c : tie.After-loop Inv-loop μ-loop) → c .before .before .before .args .count ≤ 24
+few c = omega (arith, c .before .before .before .pre)
+
+list-size : (c : tie.After-loop Inv-loop μ-loop) → length (list-of c) ≡ c .before .before .before .args .count
+list-size c = row-used _ _ (row c) (few c)
+
+padded-list : (c : tie.After-loop Inv-loop μ-loop) → padded 24 (list-of c) ≡ c .before .loop .list
+padded-list c = row-padded _ _ (row c) (few c)
+
+part : (c : tie.After-loop Inv-loop μ-loop) →
+    let t = c .before in
+    let b = t .before .before in
+    instrumentsAt (b .args .m) (b .args .count) [] (drop (b .args .at) (text t)) ≡ gives (list-of c) (drop (t .loop .next) (text t))
+part c =
+    let t = c .before in
+    sym (t .loop .inv .3) ∙ list-done _ _ (t .loop .k) _ _ (c .loop-test .left) ∙ ap (λ (i : ℕ). gives (take i (t .loop .list)) (drop (t .loop .next) (text t))) (all-read c)
+
+part1 : (c : tie.After-loop Inv-loop μ-loop) →
+    let t = c .before in
+    whole (t .before .before) ≡ endOfLine (drop (t .loop .next) (text t)) (λ r. judged (t .before .before) (list-of c) r)
+part1 c = rw (part c)
+
+-- and the LF
+ends : (c : tie.Else3 Inv-loop μ-loop) → let t = c .before .before .before in endsLine (drop (t .loop .next) (text t)) ≡ true
+ends c = passed (c .before .ends-at .ensures) (c .if3 .left)
+
+part2 : (c : tie.Else3 Inv-loop μ-loop) →
+    let t = c .before .before .before in
+    whole (t .before .before) ≡ judged (t .before .before) (list-of (c .before .before)) (drop (t .loop .next + 1) (text t))
+part2 c = let t = c .before .before .before in part1 (c .before .before) ∙ end-there (text t) (t .loop .next) _ (ends c)
+
+-- the place taken, and whether it is listed
+abbrev good : tie.After-listed2 Inv-loop μ-loop → tie.Else3 Inv-loop μ-loop
+good c = c .before .before .before
+
+abbrev done : tie.After-listed2 Inv-loop μ-loop → tie.After-loop Inv-loop μ-loop
+done c = good c .before .before
+
+taken : (c : tie.After-listed2 Inv-loop μ-loop) → c .before .before .place-or .result ≡ placeOr (done c .before .before .before .args .place) (list-of (done c))
+taken c =
+    let t = done c .before in
+    let b = t .before .before in
+    c .before .before .place-or .ensures ∙ sym (place-taken (b .args .place) (list-of (done c)) ∙ rw (getD-take (b .args .count) (t .loop .list) 0 0 (b .pre .2)))
+
+test : (c : tie.After-listed2 Inv-loop μ-loop) →
+    let p = done c .before .before .before .args .place in
+    c .listed2 .result ≡ eqb p 0 or mem p (list-of (done c))
+test c =
+    let l = list-of (done c) in
+    let b = done c .before .before .before in
+    c .listed2 .ensures ∙ ap (λ (q : ℕ). mem q l) (taken c) ∙ sym (place-listed (b .args .place) l (omega (arith, list-size (done c), b .pre .2)))
+
+loop-holds : tie.Need-loop-holds Inv-loop μ-loop
+loop-holds c = (omega arith, omega arith, record { size = refl; rest = refl }, list-start _ _ _ _)
+
+field-at-requires : tie.Need-field-at-requires Inv-loop μ-loop
+field-at-requires c κs = search needs
+
+enum-known-x : tie.Need-enum-known-x Inv-loop μ-loop
+enum-known-x c = search needs
+
+refused-requires : tie.Need-refused-requires Inv-loop μ-loop
 refused-requires c κs = search needs
 
-returns : tie.Need-returns
+returns : tie.Need-returns Inv-loop μ-loop
 returns c =
-    c .refused .ensures
-    ∙ list-refused (c .before .before .before .before .args .s .now) (c .before .before .before .before .args .at) (c .before .before .before .before .args .m) (c .before .before .before .before .args .minutes) (c .before .before .before .before .args .place) (c .before .before .before .before .args .count) (c .before .before .before .before .args .line) _ (c .before .before .instruments .ensures)
-    (some-refusal _ (c .before .match .keys2))
+    let t = c .before .before .before .before in
+    rw (← t .loop .inv .3, list-missing _ _ _ _ _ (c .before .before .before .loop-test .taken) (field-none (text t) (t .loop .next) (c .before .before .field-at .ensures) (c .before .match .keys2)))
+    (c .refused .ensures)
 
-line-end-requires : tie.Need-line-end-requires
-line-end-requires c κs =
-    let g = given (c .before) in (g .room, c .before .before .before .before .before .pre .2, omega (arith, c .before .before .before .before .before .pre), g .row)
+cast-within : tie.Need-cast-within Inv-loop μ-loop
+cast-within c = search needs
 
-returns-2 : tie.Need-returns-2
-returns-2 c = rw (given (c .before .before) .part) (c .line-end .ensures)
+within-requires : tie.Need-within-requires Inv-loop μ-loop
+within-requires c κs = search needs
+
+refused-requires-2 : tie.Need-refused-requires-2 Inv-loop μ-loop
+refused-requires-2 c κs = search needs
+
+returns-2 : tie.Need-returns-2 Inv-loop μ-loop
+returns-2 c =
+    let r = c .before .before .before in
+    rw (← turn r .loop .inv .3, list-strange _ _ _ _ _ (more r) _ _ (x-read r .number) (failed (c .before .before .within .ensures) (c .before .if1 .taken))) (c .refused2 .ensures)
+
+slice-aggregate-listed : tie.Need-slice-aggregate-listed Inv-loop μ-loop
+slice-aggregate-listed c = sym (turn (c .before .before .before) .loop .inv .2 .size)
+
+listed-requires : tie.Need-listed-requires Inv-loop μ-loop
+listed-requires c κs = let r = c .before .before .before in omega (arith, more r, turn r .loop .inv .2 .size, turn r .before .before .pre)
+
+refused-requires-3 : tie.Need-refused-requires-3 Inv-loop μ-loop
+refused-requires-3 c κs = search needs
+
+returns-3 : tie.Need-returns-3 Inv-loop μ-loop
+returns-3 c =
+    let l = c .before .before in
+    let g = l .before .before in
+    let r = g .before .before in
+    rw (← turn r .loop .inv .3, list-again _ _ _ _ _ (more r) _ _ (x-read r .number) (ranged g) (sym (l .listed .ensures) ∙ c .before .if2 .taken)) (c .refused3 .ensures)
+
+cast-list : tie.Need-cast-list Inv-loop μ-loop
+cast-list c =
+    let g = c .before .before .before in
+    let b = turn (g .before .before) .before .before in
+    omega (arith, in-range (x-of (g .before .before)) (b .args .m) (ranged g) .1, b .pre)
+
+array-write-list : tie.Need-array-write-list Inv-loop μ-loop
+array-write-list c = search needs
+
+add-next : tie.Need-add-next Inv-loop μ-loop
+add-next c = omega (arith, x-read (c .before .before .before .before .before) .room)
+
+add-k : tie.Need-add-k Inv-loop μ-loop
+add-k c = search needs
+
+loop-less : tie.Need-loop-less Inv-loop μ-loop
+loop-less c = search needs
+
+loop-again : tie.Need-loop-again Inv-loop μ-loop
+loop-again c =
+    let g = c .before .before .before in
+    let r = g .before .before in
+    let t = turn r in
+    let k : ℕ = t .loop .k in
+    let l : List ℕ = t .loop .list in
+    let h : k < 24 = omega (arith, more r, t .before .before .pre) in (
+      omega (arith, more r),
+      x-read r .room,
+      row-more _ _ _ (t .loop .inv .2) h,
+      rw (row-take k l (x-of r) (t .loop .inv .2) h)
+          (sym (list-more _ _ _ _ _ (more r) _ _ (x-read r .number) (ranged g) (sym (c .before .listed .ensures) ∙ c .if2 .left)) ∙ t .loop .inv .3),
+    )
+
+ends-at-requires : tie.Need-ends-at-requires Inv-loop μ-loop
+ends-at-requires c κs = search needs
+
+refused-requires-4 : tie.Need-refused-requires-4 Inv-loop μ-loop
+refused-requires-4 c κs = search needs
+
+returns-4 : tie.Need-returns-4 Inv-loop μ-loop
+returns-4 c =
+    let e = c .before .before in
+    let t = e .before .before in
+    rw (part1 (e .before), end-missing (text t) (t .loop .next) _ (failed (e .ends-at .ensures) (c .before .if3 .taken))) (c .refused4 .ensures)
+
+array-read-place-or : tie.Need-array-read-place-or Inv-loop μ-loop
+array-read-place-or c = search needs
+
+place-or-requires : tie.Need-place-or-requires Inv-loop μ-loop
+place-or-requires c κs = search needs
+
+slice-aggregate-listed-2 : tie.Need-slice-aggregate-listed-2 Inv-loop μ-loop
+slice-aggregate-listed-2 c = search needs
+
+listed-requires-2 : tie.Need-listed-requires-2 Inv-loop μ-loop
+listed-requires-2 c κs = let t = c .before .before .before .before .before in omega (arith, t .loop .inv .2 .size, t .before .before .pre)
+
+refused-requires-5 : tie.Need-refused-requires-5 Inv-loop μ-loop
+refused-requires-5 c κs = search needs
+
+returns-5 : tie.Need-returns-5 Inv-loop μ-loop
+returns-5 c =
+    let l = c .before .before in
+    rw (part2 (good l), sym (test l) ∙ not-true _ (c .before .if4 .taken)) (c .refused5 .ensures)
+
+cast-t31 : tie.Need-cast-t31 Inv-loop μ-loop
+cast-t31 c =
+    let l = c .before in
+    let t = done l .before in
+    let b = t .before .before in
+    let e = every-mem (isInstrument (b .args .m)) (list-of (done l)) _ (instruments-ranged _ _ _ _ _ (part (done l))) (passed (l .listed2 .ensures) (c .if4 .left)) in
+    omega (arith, instrument-most (b .args .m) _ e, b .pre)
+
+cast-t36 : tie.Need-cast-t36 Inv-loop μ-loop
+cast-t36 c = search needs
+
+add-t38 : tie.Need-add-t38 Inv-loop μ-loop
+add-t38 c =
+    let t = done (c .before) .before in
+    omega (arith, end-room (text t) (t .loop .next) (ends (good (c .before))))
+
+returns-6 : tie.Need-returns-6 Inv-loop μ-loop
+returns-6 c =
+    let l = c .before in
+    let t = done l .before in
+    rw (
+      part2 (good l),
+      sym (test l) ∙ not-false _ (c .if4 .left),
+      ← taken l,
+      padded-list (done l),
+      list-size (done l),
+      ← next-at (text t) (t .loop .next + 1) (end-room (text t) (t .loop .next) (ends (good l))),
+    )
 
 pub line-list-spec : {M : Type 1} → statement M
 line-list-spec =
     tie.close
     (tie.spec
-    instruments-requires
-    enum-told
+    Inv-loop
+    μ-loop
+    loop-holds
+    field-at-requires
+    enum-known-x
     refused-requires
     returns
-    line-end-requires
-    returns-2)
+    cast-within
+    within-requires
+    refused-requires-2
+    returns-2
+    slice-aggregate-listed
+    listed-requires
+    refused-requires-3
+    returns-3
+    cast-list
+    array-write-list
+    add-next
+    add-k
+    loop-less
+    loop-again
+    ends-at-requires
+    refused-requires-4
+    returns-4
+    array-read-place-or
+    place-or-requires
+    slice-aggregate-listed-2
+    listed-requires-2
+    refused-requires-5
+    returns-5
+    cast-t31
+    cast-t36
+    add-t38
+    returns-6)
