@@ -19,7 +19,8 @@
  *   - The text is plain bytes and ends in LF; no zero byte follows it. Its length is in the answer.
  *
  * Numbers in a sheet, a journal and every text are decimal, each in six columns with blanks before it; only the settling moves have
- * twelve columns. Zero is the one digit 0, and no other number starts with 0. Every line ends in one LF.
+ * twelve columns. Zero is the one digit 0, and no other number starts with 0. Every line ends in one LF. Six blanks stand for no number: a
+ * sheet may have them for a place, and nowhere else; a journal has none.
  */
 #ifndef BANKPLAN_H
 #define BANKPLAN_H
@@ -48,7 +49,7 @@ extern "C" {
  */
 enum bankplan_refusal {
     BANKPLAN_NO_REFUSAL = 0,
-    BANKPLAN_MALFORMED = 1,    /* the sheet is not of its form, or bytes are missing or left over */
+    BANKPLAN_MALFORMED = 1,    /* the sheet is not of its form, a field other than a place is blank, or bytes are missing or left over */
     BANKPLAN_BAD_SIZE = 2,     /* instruments not 1 to 24, or batches more than 200 */
     BANKPLAN_BAD_LENGTH = 3,   /* a length that is not 1 to 1440 minutes */
     BANKPLAN_BAD_LIST = 4,     /* qualified list empty, too long, with an instrument that is not there, or one twice */
@@ -70,8 +71,8 @@ typedef struct bankplan_answer {
 /*
  * Plans a sheet, and writes its listing at the front of the lent buffer.
  *
- * A sheet: line 1 has the numbers of instruments and of batches. Then each batch has a line: its length in minutes, its place (0: the
- * first listed instrument), how many instruments are qualified, and those. Nothing follows the last line.
+ * A sheet: line 1 has the numbers of instruments and of batches. Then each batch has a line: its length in minutes, its place (0 or six
+ * blanks: the first listed instrument), how many instruments are qualified, and those. Nothing follows the last line.
  *
  * A listing: line 1 has the finish, the floor that no plan can beat, the level, raises and bumps of the trial kept, and the settling
  * moves. Line 2 has the size and the instruments of the group of the highest level that failed, or 0 where none failed; where the floor is

@@ -21,6 +21,13 @@ done
 "$work/host" examples/sheet.txt examples/journal.txt >"$work/out" || fail "the example did not end well"
 diff examples/expected.txt "$work/out" >&2 || fail "the example prints something else than examples/expected.txt"
 
+# a place left blank is place 0
+: >"$work/empty"
+sed 's/^\(......\)      /\1     0/' examples/blank.txt >"$work/zeros"
+cmp -s examples/blank.txt "$work/zeros" && fail "examples/blank.txt has no blank place"
+"$work/host" examples/blank.txt "$work/empty" >"$work/out" || fail "the example did not end well on a sheet with blank places"
+"$work/host" "$work/zeros" "$work/empty" | cmp -s - "$work/out" || fail "a blank place is not place 0"
+
 # refused TEXT WORDS..: the example on these files ends with 1, and TEXT is all that it says
 refused() {
     local said=$1 status=0
@@ -37,6 +44,10 @@ sed '4s/$/ /' "$top/examples/journal.txt" >journal
 refused "host: sheet: line 3: refusal 3, length out of range" sheet "$top/examples/journal.txt"
 [ ! -s out ] || fail "the example prints something for a refused sheet"
 refused "host: journal: line 4: refusal 19, not of a journal's form" "$top/examples/sheet.txt" journal
+sed '2s/^    45/      /' "$top/examples/blank.txt" >sheet
+sed '3s/     2$/      /' "$top/examples/journal.txt" >journal
+refused "host: sheet: line 2: refusal 1, not of a sheet's form" sheet "$top/examples/journal.txt"
+refused "host: journal: line 3: refusal 19, not of a journal's form" "$top/examples/sheet.txt" journal
 refused "host: none: No such file or directory" none journal
 
 ./boundary || fail "the calls are not as they should be at their edges"

@@ -84,6 +84,12 @@ static void sheets(void)
     CHECK(answered(plan("    25     0\n", ROOM), BANKPLAN_BAD_SIZE, 1, 0) && holds(""));
     CHECK(answered(plan("     2     1\n    10     0     2     1     1\n", ROOM), BANKPLAN_BAD_LIST, 2, 0) && holds(""));
     CHECK(answered(plan("     2     1\n    10     2     1     1\n", ROOM), BANKPLAN_BAD_PLACE, 2, 0) && holds(""));
+    /* a blank place is none given; five blanks, and a blank elsewhere, are not of the form */
+    CHECK(answered(plan("     2     1\n    10           2     2     1\n", ROOM), 0, 0, 43 + 7 + 19) &&
+          holds("    10    10     0     0     0           0\n     0\n     1     2    10\n"));
+    CHECK(answered(plan("     2     1\n    10     ", ROOM), BANKPLAN_MALFORMED, 2, 0) && holds(""));
+    CHECK(answered(plan("     2     1\n           1     1     1\n", ROOM), BANKPLAN_MALFORMED, 2, 0) && holds(""));
+    CHECK(answered(plan("     2     1\n    10     1           1\n", ROOM), BANKPLAN_MALFORMED, 2, 0) && holds(""));
     /* a sheet's fault comes before a short buffer */
     CHECK(answered(plan(too_long, 0), BANKPLAN_BAD_LENGTH, 2, 0) && holds(""));
 }
@@ -108,6 +114,7 @@ static void journals(void)
     CHECK(answered(run(sheet, "     5\n     7", ROOM), BANKPLAN_BAD_JOURNAL, 2, 0) && holds(""));
     CHECK(answered(run(sheet, "     5     0\n", ROOM), BANKPLAN_BAD_JOURNAL, 1, 0) && holds(""));
     CHECK(answered(run(sheet, "     1    10     2     1\n", ROOM), BANKPLAN_BAD_JOURNAL, 1, 0) && holds(""));
+    CHECK(answered(run(sheet, "     5\n     4     1      \n", ROOM), BANKPLAN_BAD_JOURNAL, 2, 0) && holds(""));
     /* a sheet's fault comes before a journal's, and that before a short buffer */
     CHECK(answered(run(too_long, "\n", ROOM), BANKPLAN_BAD_LENGTH, 2, 0) && holds(""));
     CHECK(answered(run(sheet, "\n", 0), BANKPLAN_BAD_JOURNAL, 1, 0) && holds(""));

@@ -1,7 +1,7 @@
 -- One column of a field at a time, and the bound of a number's value.
 use Prim.Native.Nat.{ℕ, zero, suc, _+_, _-_, _*_, _≤_, _<_, _^_}
-use mathlib.Core.Path.{_≡_, refl, sym, ap, _∙_}
-use mathlib.Core.Bool.{Bool, true, false}
+use mathlib.Core.Path.{_≡_, refl, _∙_}
+use mathlib.Core.Bool.{true, false}
 use mathlib.Core.List.{List, [], _∷_}
 use native.Mathlib.Nat.{pow-suc, pow-le-pow-right}
 use native.Mathlib.Numerals.{add-one}
@@ -12,7 +12,7 @@ use lib.Dec.{leb, eqb, lit<}
 use lib.ListN.{length, getD, take, drop, length-drop, drop-of-length-le}
 use lib.Seq.{drop-cons, getD-take, length-take-le, take-all}
 use borrow.Author.Tests.{leb-true, eqb-true, eqb-false, le-leb, lt-leb, ne-eqb}
-use Rattle.rules.specs.Fold.{pick, _and_}
+use Rattle.rules.specs.Fold.{_and_}
 use Rattle.rules.specs.Field.{value, blank, fault, isDigit, digits, loneZero, blanks}
 use Rattle.rules.specs.Field as F
 use Rattle.rules.specs.Read.{blankZero}

@@ -1,7 +1,7 @@
 -- A row of marks made from a list, one store for each instrument that it names.
 use Prim.Native.Nat.{ℕ, suc, _+_, _-_, _≤_, _<_}
 use mathlib.Core.Path.{_≡_, refl, sym, ap, _∙_}
-use mathlib.Core.Bool.{Bool, true, false}
+use mathlib.Core.Bool.{Bool, true}
 use mathlib.Core.List.{List, [], _∷_, _++_}
 use native.Mathlib.Omega.{arith}
 use native.Mathlib.Numerals.{add-one}
@@ -10,7 +10,7 @@ use lib.Seq.{paste, take-suc, getD-drop, getD-set-same, getD-set-other, set-appe
 use lib.Dec.{eqb}
 use borrow.Author.Tests.{eqb-true, eqb-false}
 use Rattle.rules.specs.Fold.{pick, _or_, mem, listTo}
-use Rattle.theory.proofs.Logic.{byTest, conflict, or-right, or-false}
+use Rattle.theory.proofs.Logic.{byTest, or-right, or-false}
 use Rattle.theory.proofs.Member.{mem-append, mem-one, mem-head}
 use Rattle.theory.proofs.Entries.{length-listTo, getD-listTo}
 use Rattle.sheet.specs.View.{marksOf}
@@ -62,23 +62,6 @@ marks-more l x p q =
     let n = length-marks (l ++ (x ∷ [])) in
     ext-getD 0 _ _ (n ∙ sym (length-set (marksOf l) (x - 1) 1 ∙ length-marks l))
     (λ k h. mark-last l x k p q (omega arith))
-
--- what a mark says of its instrument
-mark-says : (t : Bool) (y : ℕ) → y ≡ pick t 1 0 → (t ≡ true → y ≡ 0 → ⊥) × (t ≡ false → y ≡ 0)
-mark-says true y e = (λ t z. omega arith, λ t. conflict refl t)
-mark-says false y e = (λ t z. conflict t refl, λ t. e)
-
-module _ (l : List ℕ) (x : ℕ) (p : 0 < x) (q : x ≤ 24) where
-  mark-of : getD (marksOf l) (x - 1) 0 ≡ pick (mem x l) 1 0
-  mark-of =
-      let e : suc (x - 1) ≡ x = omega arith in
-      mark-at l (x - 1) (omega arith) ∙ ap (λ (i : ℕ). pick (mem i l) 1 0) e
-
-  pub marked-there : (getD (marksOf l) (x - 1) 0 ≡ 0 → ⊥) → mem x l ≡ true
-  marked-there h = byTest (mem x l) (λ t. t) (λ t. absurd (h (mark-says (mem x l) _ mark-of .1 t)))
-
-  pub unmarked-not : getD (marksOf l) (x - 1) 0 ≡ 0 → mem x l ≡ false
-  unmarked-not h = byTest (mem x l) (λ t. absurd (mark-says (mem x l) _ mark-of .0 t h)) (λ t. t)
 
 -- ---- a store in a row
 

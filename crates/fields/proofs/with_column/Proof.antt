@@ -1,6 +1,6 @@
 -- By what the columns before give.
 use borrow.Author.Needs.{needs}
-use borrow.Author.Tests.{eq-eqb, ne-eqb}
+use borrow.Author.Tests.{ne-eqb}
 use Rattle.fields.proofs.with_column.Statement.{statement}
 use Rattle.fields.proofs.with_column.Tie as tie
 

@@ -1,5 +1,4 @@
 -- How many, and then the numbers.
-use mathlib.Core.Path.{_≡_}
 use borrow.Author.Needs.{needs}
 use lib.ListN.{drop}
 use Rattle.rules.specs.Journal.{listAt}

@@ -1,6 +1,5 @@
 -- The number is read, or missing.
 use Prim.Native.Nat.{_+_}
-use mathlib.Core.Path.{_≡_}
 use borrow.Author.Needs.{needs}
 use lib.ListN.{drop}
 use Rattle.rules.specs.Read.{numberAt}

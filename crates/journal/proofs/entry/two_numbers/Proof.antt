@@ -1,9 +1,8 @@
 -- Each number is read in its turn, or missing.
-use Prim.Native.Nat.{ℕ, _+_, _≤_}
-use mathlib.Core.Path.{_≡_}
+use Prim.Native.Nat.{ℕ, _+_}
 use mathlib.Core.List.{List}
 use borrow.Author.Needs.{needs}
-use lib.ListN.{drop, length}
+use lib.ListN.{drop}
 use Rattle.rules.specs.Read.{numberAt}
 use Rattle.fields.proofs.Reading.{NumberRead, field-number, field-none, next-at}
 use Rattle.journal.proofs.entry.two_numbers.Statement.{statement}

@@ -1,11 +1,11 @@
 -- The invariant: what is left passes, and names no number twice, exactly where the whole does.
 use Prim.Native.Nat.{_-_}
-use mathlib.Core.Path.{_≡_, refl, sym, _∙_}
+use mathlib.Core.Path.{refl, sym, _∙_}
 use native.Mathlib.Omega.{arith}
 use borrow.Author.Needs.{needs}
 use lib.ListN.{length}
 use Rattle.rules.specs.Sheet.{isInstrument}
-use Rattle.sheet.proofs.Scan.{Passes, DistinctSo, GoodSo, every-fail, every-pass, every-end, twice, once, distinct-end, failed, passed, list-size, list-strange, list-twice, list-good}
+use Rattle.sheet.proofs.Scan.{GoodSo, every-fail, every-pass, every-end, twice, once, distinct-end, failed, passed, list-size, list-strange, list-twice, list-good}
 use Rattle.sheet.proofs.edit.good_list.Statement.{statement}
 use Rattle.sheet.proofs.edit.good_list.Tie as tie
 
