@@ -101,8 +101,8 @@ module _ (s : List ℕ) (at m n : ℕ) where
         }
 
     -- the next line is refused
-    pub then-refused : (x : Line) → x ≡ lineAs (length s) (batchLine m (drop next s)) → (x .refusal ≡ Nothing → ⊥) → i < n
-        → unread (x .refusal) (i + 2) ≡ readAs (batchLines m n 2 [] (drop at s))
+    pub then-refused : (x : Line) → x ≡ lineAs (length s) (i + 2) (batchLine m (drop next s)) → (x .refusal ≡ Nothing → ⊥) → i < n
+        → unread (x .refusal) (x .line) ≡ readAs (batchLines m n 2 [] (drop at s))
     then-refused x e o l =
         let c : suc (n - (i + 1)) ≡ n - i = omega arith in
         line-refused s next m (n - (i + 1)) (i + 2) (f .batches) x e o

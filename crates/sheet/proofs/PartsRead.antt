@@ -55,11 +55,11 @@ module _ (s : List ℕ) (at : ℕ) (h : at ≤ length s) where
     pub count : i .count ≡ length (batch .list)
     pub list : i .list ≡ padded 24 (batch .list)
 
-  pub line-given : (m : ℕ) (i : Line) → m ≤ 24 → i ≡ lineAs (length s) (batchLine m (drop at s)) → i .refusal ≡ Nothing
+  pub line-given : (m j : ℕ) (i : Line) → m ≤ 24 → i ≡ lineAs (length s) j (batchLine m (drop at s)) → i .refusal ≡ Nothing
       → LineGiven m i
-  line-given m i g e n = from (batchLine m (drop at s)) refl e
+  line-given m j i g e n = from (batchLine m (drop at s)) refl e
     where
-      from : (p : Part Batch) → batchLine m (drop at s) ≡ p → i ≡ lineAs (length s) p → LineGiven m i
+      from : (p : Part Batch) → batchLine m (drop at s) ≡ p → i ≡ lineAs (length s) j p → LineGiven m i
       from (refuses z) q d = absurd (coded-none z (sym (ap (λ (x : Line). x .refusal) d) ∙ n))
       from (gives b u) q d =
           took (batch-near m 163 (drop at s) g (omega arith)) q (λ a k z v.
@@ -76,12 +76,12 @@ module _ (s : List ℕ) (at : ℕ) (h : at ≤ length s) where
           })
 
 -- a refusal is handed on
-pub line-refused : (s : List ℕ) (at m c j : ℕ) (bs : List Batch) (i : Line) → i ≡ lineAs (length s) (batchLine m (drop at s))
-    → (i .refusal ≡ Nothing → ⊥) → unread (i .refusal) j ≡ readAs (batchLines m (suc c) j bs (drop at s))
+pub line-refused : (s : List ℕ) (at m c j : ℕ) (bs : List Batch) (i : Line) → i ≡ lineAs (length s) j (batchLine m (drop at s))
+    → (i .refusal ≡ Nothing → ⊥) → unread (i .refusal) (i .line) ≡ readAs (batchLines m (suc c) j bs (drop at s))
 unfolding batchLines
 line-refused s at m c j bs i e n = from (batchLine m (drop at s)) (λ b r. batchLines m c (suc j) (bs ++ (b ∷ [])) r) e
   where
-    from : (q : Part Batch) (f : Batch → List ℕ → Reading) → i ≡ lineAs (length s) q
-        → unread (i .refusal) j ≡ readAs (onLine j q f)
+    from : (q : Part Batch) (f : Batch → List ℕ → Reading) → i ≡ lineAs (length s) j q
+        → unread (i .refusal) (i .line) ≡ readAs (onLine j q f)
     from (gives l r) f d = absurd (n (ap (λ (x : Line). x .refusal) d))
-    from (refuses g) f d = ap (λ (x : Line). unread (x .refusal) j) d
+    from (refuses g) f d = ap (λ (x : Line). unread (x .refusal) (x .line)) d

@@ -14,11 +14,12 @@ use Rattle.sheet.specs.declared.read.Line.{Line}
 use Rattle.sheet.specs.Represent.{padded, blank}
 use Rattle.sheet.specs.Answers.{coded}
 
--- ---- a batch line of a sheet of w bytes: where it is refused, all that it would give is 0
+-- ---- a batch line of a sheet of w bytes, at line j: where it is refused, all that it would give is 0
 
-abbrev pub noLine : Refusal → Line
-noLine e = record {
+abbrev pub noLine : Refusal → ℕ → Line
+noLine e j = record {
   refusal = e;
+  line = j;
   minutes = 0;
   place = 0;
   count = 0;
@@ -26,16 +27,17 @@ noLine e = record {
   next = 0;
 }
 
-abbrev pub lineAs : ℕ → Part Batch → Line
-lineAs w (gives b r) = record {
+abbrev pub lineAs : ℕ → ℕ → Part Batch → Line
+lineAs w j (gives b r) = record {
   refusal = Nothing;
+  line = 0;
   minutes = b .minutes;
   place = b .place;
   count = length (b .list);
   list = padded 24 (b .list);
   next = w - length r;
 }
-lineAs w (refuses e) = noLine (coded e)
+lineAs w j (refuses e) = noLine (coded e) j
 
 -- a batch line of t minutes and place p, from its list of c instruments on
 abbrev pub lineList : ℕ → ℕ → ℕ → ℕ → List ℕ → Part Batch

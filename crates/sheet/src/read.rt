@@ -19,9 +19,10 @@ use fields::ends_at;
 use fields::field_at;
 use fields::place_at;
 
-// What a batch line gives, and where the next line starts.
+// What a batch line gives and where the next line starts, or the refusal with its line.
 struct Line {
     refusal: Refusal,
+    line: usize,
     minutes: u16,
     place: u8,
     count: u8,
@@ -30,11 +31,12 @@ struct Line {
 }
 
 impl Line {
-    fn refused(refusal: Refusal) -> Self
-        ensures { λ r. ⌜ r ≡ noLine refusal ⌝ }
+    fn refused(refusal: Refusal, line: usize) -> Self
+        ensures { λ r. ⌜ r ≡ noLine refusal line ⌝ }
     {
         Self {
             refusal,
+            line,
             minutes: 0,
             place: 0,
             count: 0,
@@ -56,36 +58,45 @@ fn place_or(p: u32, first: u8) -> u32
 
 // A batch line from its list on: the instruments, each judged at its own field, the LF, and then the place, for which the first
 // listed is taken where it is 0.
-fn line_list(s: &[u8], at: usize, m: usize, minutes: u16, place: u32, count: usize) -> Line
+fn line_list(
+    s: &[u8],
+    at: usize,
+    line: usize,
+    m: usize,
+    minutes: u16,
+    place: u32,
+    count: usize,
+) -> Line
     requires { ⌜ (at ≤ length (now s)) × (m ≤ 24) × (0 < count) × (count ≤ m) ⌝ }
-    ensures { λ r. ⌜ r ≡ lineAs (length (now (s .entry))) (lineList m minutes place count (drop at (now (s .entry)))) ⌝ }
+    ensures { λ r. ⌜ r ≡ lineAs (length (now (s .entry))) line (lineList m minutes place count (drop at (now (s .entry)))) ⌝ }
 {
     let mut list = [0u8; 24];
     let mut k = 0;
     let mut next = at;
     while k < count {
         let Field::Value(x) = field_at(s, next) else {
-            return Line::refused(Refusal::Malformed);
+            return Line::refused(Refusal::Malformed, line);
         };
         if !within(x as usize, m) {
-            return Line::refused(Refusal::BadList);
+            return Line::refused(Refusal::BadList, line);
         }
         if listed(&list, 0, k, x) {
-            return Line::refused(Refusal::BadList);
+            return Line::refused(Refusal::BadList, line);
         }
         list[k] = x as u8;
         next += 6;
         k += 1;
     }
     if !ends_at(s, next) {
-        return Line::refused(Refusal::Malformed);
+        return Line::refused(Refusal::Malformed, line);
     }
     let p = place_or(place, list[0]);
     if !listed(&list, 0, count, p) {
-        return Line::refused(Refusal::BadPlace);
+        return Line::refused(Refusal::BadPlace, line);
     }
     Line {
         refusal: Refusal::Nothing,
+        line: 0,
         minutes,
         place: p as u8,
         count: count as u8,
@@ -95,29 +106,29 @@ fn line_list(s: &[u8], at: usize, m: usize, minutes: u16, place: u32, count: usi
 }
 
 // The batch line that starts at at.
-fn batch_line(s: &[u8], at: usize, m: usize) -> Line
+fn batch_line(s: &[u8], at: usize, line: usize, m: usize) -> Line
     requires { ⌜ (at ≤ length (now s)) × (m ≤ 24) ⌝ }
-    ensures { λ r. ⌜ r ≡ lineAs (length (now (s .entry))) (batchLine m (drop at (now (s .entry)))) ⌝ }
+    ensures { λ r. ⌜ r ≡ lineAs (length (now (s .entry))) line (batchLine m (drop at (now (s .entry)))) ⌝ }
 {
     let Field::Value(t) = field_at(s, at) else {
-        return Line::refused(Refusal::Malformed);
+        return Line::refused(Refusal::Malformed, line);
     };
     if !within(t as usize, Sheet::MINUTES) {
-        return Line::refused(Refusal::BadLength);
+        return Line::refused(Refusal::BadLength, line);
     }
     let second = at + 6;
     let Field::Value(p) = place_at(s, second) else {
-        return Line::refused(Refusal::Malformed);
+        return Line::refused(Refusal::Malformed, line);
     };
     let third = second + 6;
     let Field::Value(c) = field_at(s, third) else {
-        return Line::refused(Refusal::Malformed);
+        return Line::refused(Refusal::Malformed, line);
     };
     if !within(c as usize, m) {
-        return Line::refused(Refusal::BadList);
+        return Line::refused(Refusal::BadList, line);
     }
     let fourth = third + 6;
-    line_list(s, fourth, m, t as u16, p, c as usize)
+    line_list(s, fourth, line, m, t as u16, p, c as usize)
 }
 
 // A sheet that is refused at a line: the blank value stands in the sheet's place.
@@ -144,10 +155,10 @@ fn batch_lines(s: &[u8], at: usize, m: usize, n: usize) -> Reading
     let mut next = at;
     let mut i = 0;
     while i < n {
-        let b = batch_line(s, next, m);
+        let b = batch_line(s, next, i + 2, m);
         let e = b.refusal;
         let Refusal::Nothing = e else {
-            return refused_at(e, i + 2);
+            return refused_at(e, b.line);
         };
         minutes[i] = b.minutes;
         places[i] = b.place;

@@ -38,7 +38,7 @@ add-self : tie.Need-add-self
 add-self c = search needs
 
 returns : tie.Need-returns
-returns c = rw (c .before .enter-part .ensures)
+returns c = simp (c .before .enter-part .ensures)
 
 pub appended-spec : {M : Type 1} → statement M
 appended-spec =

@@ -49,7 +49,7 @@ sub-t18 c = search needs
 
 returns : tie.Need-returns
 returns c =
-    rw (
+    simp (
       c .before .before .before .before .before .before .before .before .before .before .before .before .before .shift-minutes .ensures,
       c .before .before .before .before .before .before .before .before .before .shift-down .ensures,
       c .before .before .before .before .before .shift-down2 .ensures,

@@ -38,7 +38,7 @@ enter-part-requires c κs =
     (omega (arith, c .before .before .before .before .before .before .pre), omega arith)
 
 returns : tie.Need-returns
-returns c = rw (c .before .enter-part .ensures, c .before .before .before .before .before .kept-in .ensures)
+returns c = simp (c .before .enter-part .ensures, c .before .before .before .before .before .kept-in .ensures)
 
 pub requalified-spec : {M : Type 1} → statement M
 requalified-spec =

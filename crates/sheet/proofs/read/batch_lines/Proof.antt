@@ -24,7 +24,7 @@ text c = c .args .s .now
 given : (c : tie.After-enum-told Inv-loop μ-loop) →
     LineGiven (text (c .before .before .before .before .before .before)) (c .before .before .before .before .loop .next) (c .before .before .before .before .loop .inv .room) (c .before .before .before .before .before .before .args .m) (c .before .before .batch-line .result)
 given c =
-    line-given (text (c .before .before .before .before .before .before)) (c .before .before .before .before .loop .next) (c .before .before .before .before .loop .inv .room) (c .before .before .before .before .before .before .args .m) _ (c .before .before .before .before .before .before .pre .1)
+    line-given (text (c .before .before .before .before .before .before)) (c .before .before .before .before .loop .next) (c .before .before .before .before .loop .inv .room) (c .before .before .before .before .before .before .args .m) (c .before .before .before .before .loop .i + 2) _ (c .before .before .before .before .before .before .pre .1)
     (c .before .before .batch-line .ensures) (c .enum-told .given .1)
 
 -- a batch more has room
@@ -34,14 +34,14 @@ room c = omega (arith, c .before .before .before .loop-test .taken, c .before .b
 loop-holds : tie.Need-loop-holds Inv-loop μ-loop
 loop-holds c = none-yet _ _ _ _ (c .before .pre .0)
 
+add-batch-line : tie.Need-add-batch-line Inv-loop μ-loop
+add-batch-line c = omega (arith, c .before .loop .inv .few, c .before .before .before .pre)
+
 batch-line-requires : tie.Need-batch-line-requires Inv-loop μ-loop
 batch-line-requires c κs = (c .before .loop .inv .room, c .before .before .before .pre .1)
 
 enum-told : tie.Need-enum-told Inv-loop μ-loop
 enum-told c = search needs
-
-add-refused-at : tie.Need-add-refused-at Inv-loop μ-loop
-add-refused-at c = omega (arith, c .before .before .before .loop .inv .few, c .before .before .before .before .before .pre)
 
 refused-at-requires : tie.Need-refused-at-requires Inv-loop μ-loop
 refused-at-requires c κs = search needs
@@ -91,8 +91,8 @@ loop-again c =
     rw (c .before .enter-part .ensures)
     (one-more _ _ _ _ _ _ _ (c .before .before .before .before .before .before .before .before .before .loop .inv) _ (c .before .before .before .before .before .before .before .before .before .loop .inv .room) (given (c .before .before .before .before .before)) (c .before .before .before .before .before .before .before .before .loop-test .taken) (c .before .before .before .before .before .before .before .before .before .before .before .pre .2))
 
-add-refused-at-2 : tie.Need-add-refused-at-2 Inv-loop μ-loop
-add-refused-at-2 c = omega (arith, c .before .before .loop .inv .few, c .before .before .before .before .pre)
+add-refused-at : tie.Need-add-refused-at Inv-loop μ-loop
+add-refused-at c = omega (arith, c .before .before .loop .inv .few, c .before .before .before .before .pre)
 
 refused-at-requires-2 : tie.Need-refused-at-requires-2 Inv-loop μ-loop
 refused-at-requires-2 c κs = search needs
@@ -118,9 +118,9 @@ batch-lines-spec =
     Inv-loop
     μ-loop
     loop-holds
+    add-batch-line
     batch-line-requires
     enum-told
-    add-refused-at
     refused-at-requires
     returns
     mul-minutes
@@ -134,7 +134,7 @@ batch-lines-spec =
     add-i
     loop-less
     loop-again
-    add-refused-at-2
+    add-refused-at
     refused-at-requires-2
     returns-2
     returns-3)

@@ -25,12 +25,12 @@ use Rattle.sheet.proofs.read.line_list.Statement.{statement}
 use Rattle.sheet.proofs.read.line_list.Tie as tie
 
 abbrev Inv-loop : tie.InvT-loop
-Inv-loop s at m minutes place count list₀ k₀ next₀ list k next =
+Inv-loop s at line m minutes place count list₀ k₀ next₀ list k next =
     (k ≤ count) × (next ≤ length s) × Row k list
     × (instrumentsAt m (count - k) (take k list) (drop next s) ≡ instrumentsAt m count [] (drop at s))
 
 abbrev μ-loop : tie.MeasureT-loop
-μ-loop s at m minutes place count list₀ k₀ next₀ list k next = count - k
+μ-loop s at line m minutes place count list₀ k₀ next₀ list k next = count - k
 
 abbrev text : tie.At-loop Inv-loop μ-loop → List ℕ
 text t = t .before .before .args .s .now
@@ -245,19 +245,19 @@ returns-5 c =
     let l = c .before .before in
     rw (part2 (good l), sym (test l) ∙ not-true _ (c .before .if4 .taken)) (c .refused5 .ensures)
 
-cast-t30 : tie.Need-cast-t30 Inv-loop μ-loop
-cast-t30 c =
+cast-t31 : tie.Need-cast-t31 Inv-loop μ-loop
+cast-t31 c =
     let l = c .before in
     let t = done l .before in
     let b = t .before .before in
     let e = every-mem (isInstrument (b .args .m)) (list-of (done l)) _ (instruments-ranged _ _ _ _ _ (part (done l))) (passed (l .listed2 .ensures) (c .if4 .left)) in
     omega (arith, instrument-most (b .args .m) _ e, b .pre)
 
-cast-t35 : tie.Need-cast-t35 Inv-loop μ-loop
-cast-t35 c = search needs
+cast-t36 : tie.Need-cast-t36 Inv-loop μ-loop
+cast-t36 c = search needs
 
-add-t37 : tie.Need-add-t37 Inv-loop μ-loop
-add-t37 c =
+add-t38 : tie.Need-add-t38 Inv-loop μ-loop
+add-t38 c =
     let t = done (c .before) .before in
     omega (arith, end-room (text t) (t .loop .next) (ends (good (c .before))))
 
@@ -308,7 +308,7 @@ line-list-spec =
     listed-requires-2
     refused-requires-5
     returns-5
-    cast-t30
-    cast-t35
-    add-t37
+    cast-t31
+    cast-t36
+    add-t38
     returns-6)
