@@ -1,8 +1,10 @@
 -- Document 01, "Cases": P1 to P10 in one table, with one theorem over it. The rows from 11 on are more of document 01's cases
--- and ours: each tells a wrong rule from the right one. Row 20 is document 02's C-11.
+-- and ours: each tells a wrong rule from the right one. Rows 20 and 21 are C-11 and C-12
+-- of document 02.
 use Prim.Native.Nat.{ℕ}
 use Prim.Native.String.{String}
 use mathlib.Core.Path.{_≡_, refl}
+use mathlib.Core.Bool.{Bool, true, false}
 use mathlib.Core.List.{List, [], _∷_, map, _++_}
 use lib.ListN.{replicate}
 use Rattle.rules.specs.Fold.{_and_, _or_, mem, every, sumTo, most, maxTo, orElse, firstTo, anyTo, allTo, lesser, leastTo, greater, greatestTo, thoseTo, listTo}
@@ -12,14 +14,16 @@ use Rattle.rules.specs.Field.{Field, value, blank, fault, digits, loneZe
 use Rattle.rules.specs.Read.{Reading, accepted, refusedAt, numberAt, placeAt, endOfLine, headLine, instrumentsAt, batchLine, batchLines, read}
 use Rattle.rules.specs.Render.{columns, fields, Given, numbered, leftBlank, Described, Description, renderBatches, render, batchWithinLimits, withinLimits, described}
 use Rattle.rules.specs.Edit.{add, withdraw, requalify, move, kept, edit}
-use Rattle.rules.specs.Load.{load, makespan, longest, total, elsewhere, improvesAt, improves, review}
+use Rattle.rules.specs.Instance.{Assignment, instance}
+use Rattle.rules.specs.Load.{load, makespan, longest, total, permitted, elsewhere, improvesAt, improves, review}
 use Rattle.rules.specs.Settle.{mover, target, moved, squares, settleBy, settle}
 use Rattle.rules.specs.Trial.{atLevel, underloaded, overloaded, unplaced, machineArc, jobArc, liftOver, pushOr, deed, jobDeed, machineDeed, someUnderloaded, actMachine, actJob, act, stepsBy, liftBound, pushBound, endedBy}
 use Rattle.rules.specs.Group.{overflows, reach, reachBy, closure, group, passed, failed, trial}
 use Rattle.rules.specs.Balance.{searchBy, balance}
 use Rattle.rules.specs.LowerBound.{within, confined, share, lowerBound}
+use Rattle.rules.specs.Round.{multiples, equalLengths, closeTo}
 use Rattle.rules.specs.Plan.{plan}
-use Rattle.rules.specs.Run.{Call, editing, reviewing, trying, planning, Answer, refused, done, reviewed, tried, planned, answer, next, answers}
+use Rattle.rules.specs.Run.{Call, editing, reviewing, trying, planning, Answer, refused, done, reviewed, tried, planned, planBook, answer, next, answers}
 use Rattle.rules.specs.Listing.{batchListing, listing, program, Hosted, host}
 use Rattle.rules.specs.Journal.{numbersAt, listAt, addAt, withdrawAt, requalifyAt, moveAt, trialAt, callAt, callLine, linesBy, journal, answerLines, runHost}
 use Rattle.rules.specs.Text.{bytes, lines}
@@ -124,6 +128,26 @@ threeWays =
     ∷ "    30           2     2     1"
     ∷ [])
 
+-- all lengths are multiples of 2, and the plan is as late as that allows
+abbrev rounded : List ℕ
+rounded =
+    lines
+    ("     2     3"
+    ∷ "     4     1     2     1     2"
+    ∷ "     2     2     2     1     2"
+    ∷ "     2     1     1     1"
+    ∷ [])
+
+-- equal lengths: the plan is a best one, and the lower bound is below it
+abbrev equals : List ℕ
+equals =
+    lines
+    ("     2     3"
+    ∷ "     6     1     2     1     2"
+    ∷ "     6     1     2     1     2"
+    ∷ "     6     1     2     1     2"
+    ∷ [])
+
 -- ---- what is asked, and what is said
 
 data Ask : Type 0 where
@@ -143,6 +167,17 @@ data Ask : Type 0 where
   running : List ℕ → List ℕ → List ℕ → Ask
   -- calls in a row, on the sheet of a file
   calling : List ℕ → List Call → Ask
+  -- a file planned, beside another plan of it, for a number g
+  comparing : List ℕ → ℕ → Assignment → Ask
+
+-- the lengths are multiples of g, and all equal; the other plan is permitted; the plan's finish and the other's; the bound for g holds
+record Comparison : Type 0 where
+  multiples : Bool
+  equal : Bool
+  permitted : Bool
+  finish : ℕ
+  other : ℕ
+  close : Bool
 
 data Said : Type 0 where
   fieldSaid : Field → Said
@@ -151,11 +186,25 @@ data Said : Type 0 where
   printed : List ℕ → Said
   hosted : Hosted → Said
   answered : List Answer → Said
+  compared : Comparison → Said
   noSheet : Said
 
 abbrev callsOn : Reading → List Call → Said
 callsOn (accepted k) cs = answered (answers k cs)
 callsOn (refusedAt e j) cs = noSheet
+
+abbrev comparedOn : Reading → ℕ → Assignment → Said
+comparedOn (accepted k) g y =
+    let I = instance k in
+    compared (record {
+      multiples = multiples I g;
+      equal = equalLengths I;
+      permitted = permitted I y;
+      finish = planBook k .makespan;
+      other = makespan I y;
+      close = closeTo I g (planBook k .makespan) (makespan I y);
+    })
+comparedOn (refusedAt e j) g y = noSheet
 
 abbrev writtenOf : Reading → Said
 writtenOf (accepted k) = written (render (described k))
@@ -170,6 +219,7 @@ say (printing s) = printed (program s)
 say (hosting s b) = hosted (host s b)
 say (running s c b) = hosted (runHost s c b)
 say (calling s cs) = callsOn (read s) cs
+say (comparing s g y) = comparedOn (read s) g y
 
 -- a row: the case's number in document 01, what is asked, and what is to be said
 record Row : Type 0 where
@@ -315,6 +365,16 @@ table =
     ∷ row 20 (reading (lines ("     2     1" ∷ "    10     1     2     1      " ∷ []))) (readingSaid (refusedAt malformed 2))
     ∷ row 20 (running p3 (lines ("     5" ∷ "     4     1      " ∷ [])) (1 ∷ []))
     (hosted (record { refusal = 19; line = 2; length = 0; buffer = 1 ∷ [] }))
+    -- round lengths: the bound for 2 is reached; not all are multiples of 4, and none is of 0; equal lengths
+    ∷ row 21 (comparing rounded 2 (2 ∷ 1 ∷ 1 ∷ []))
+    (compared (record { multiples = true; equal = false; permitted = true; finish = 6; other = 4; close = true }))
+    ∷ row 21 (comparing rounded 4 (2 ∷ 1 ∷ 1 ∷ []))
+    (compared (record { multiples = false; equal = false; permitted = true; finish = 6; other = 4; close = false }))
+    ∷ row 21 (comparing rounded 0 (2 ∷ 1 ∷ 1 ∷ []))
+    (compared (record { multiples = false; equal = false; permitted = true; finish = 6; other = 4; close = true }))
+    ∷ row 21 (comparing equals 6 (1 ∷ 1 ∷ 2 ∷ []))
+    (compared (record { multiples = true; equal = true; permitted = true; finish = 12; other = 12; close = true }))
+    ∷ row 21 (calling equals (planning ∷ [])) (answered (planSaid 12 9 6 2 2 0 (1 ∷ 2 ∷ []) (2 ∷ 1 ∷ 1 ∷ []) ∷ []))
     ∷ []
 
 abbrev asked : List Row → List Said
@@ -325,5 +385,5 @@ said t = map (λ (r : Row). r .says) t
 
 -- the rules say what the table says
 cases : asked table ≡ said table
-unfolding table bytes lines _and_ _or_ mem every sumTo most maxTo orElse firstTo anyTo allTo lesser leastTo greater greatestTo thoseTo listTo isBatch goodInstruments goodMinutes isInstrument distinct goodList goodBatch sound digits loneZero blanks field numberAt placeAt endOfLine headLine instrumentsAt batchLine batchLines read columns fields renderBatches render batchWithinLimits withinLimits kept edit load makespan longest total elsewhere improvesAt improves review mover target moved squares settleBy settle atLevel underloaded overloaded unplaced machineArc jobArc liftOver pushOr deed jobDeed machineDeed someUnderloaded actMachine actJob act stepsBy liftBound pushBound endedBy overflows reach reachBy closure group trial searchBy balance within confined share lowerBound plan answer next answers batchListing listing program host numbersAt listAt addAt withdrawAt requalifyAt moveAt trialAt callAt callLine linesBy journal answerLines runHost
+unfolding table bytes lines _and_ _or_ mem every sumTo most maxTo orElse firstTo anyTo allTo lesser leastTo greater greatestTo thoseTo listTo isBatch goodInstruments goodMinutes isInstrument distinct goodList goodBatch sound digits loneZero blanks field numberAt placeAt endOfLine headLine instrumentsAt batchLine batchLines read columns fields renderBatches render batchWithinLimits withinLimits kept edit load makespan longest total permitted elsewhere improvesAt improves review mover target moved squares settleBy settle atLevel underloaded overloaded unplaced machineArc jobArc liftOver pushOr deed jobDeed machineDeed someUnderloaded actMachine actJob act stepsBy liftBound pushBound endedBy overflows reach reachBy closure group trial searchBy balance within confined share lowerBound multiples equalLengths closeTo plan answer next answers batchListing listing program host numbersAt listAt addAt withdrawAt requalifyAt moveAt trialAt callAt callLine linesBy journal answerLines runHost
 cases = refl

@@ -7,7 +7,7 @@
 --   Runs               Run
 --   The listing        Listing
 --   Cases              Cases, and Text, in which its files are written
--- Journal, calls and answers as texts, is not in document 01.
+-- Journal, calls and answers as texts, is not in document 01. Round is document 02's C-12.
 -- Fold has the lists by number and the folds over 1 to k that all of them use.
 pub mod Fold
 pub mod Refusal
@@ -23,6 +23,7 @@ pub mod Trial
 pub mod Group
 pub mod Balance
 pub mod LowerBound
+pub mod Round
 pub mod Plan
 pub mod Run
 pub mod Listing

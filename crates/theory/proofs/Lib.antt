@@ -18,6 +18,7 @@ pub mod Ending
 pub mod Underloaded
 pub mod Closure
 pub mod Makespan
+pub mod Round
 pub mod Review
 pub mod Square
 pub mod Small

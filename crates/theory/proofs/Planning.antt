@@ -1,10 +1,11 @@
 -- Planning, from a permitted assignment: the new one is permitted, settled and no later, and on an instance with a job it is within
--- longest − 1 of every permitted assignment and of the lower bound, which has its witness.
-use Prim.Native.Nat.{ℕ, suc, _+_, _*_, _≤_, _<_}
+-- longest − g of every permitted assignment, for each g of which every length is a multiple, and within longest − 1 of the lower bound,
+-- which has its witness.
+use Prim.Native.Nat.{ℕ, suc, _+_, _*_, _≤_, _<_, _∣_}
 use mathlib.Core.Path.{_≡_, refl, ap, _∙_}
 use mathlib.Core.Bool.{Bool, true, false}
 use mathlib.Core.List.{List, [], _∷_}
-use native.Mathlib.Nat.{le-refl, le-trans}
+use native.Mathlib.Nat.{le-refl, le-trans, dvd-add}
 use native.Mathlib.Omega.{arith}
 use lib.ListN.{length}
 use lib.Dec.{ltb, eqb}
@@ -16,11 +17,13 @@ use Rattle.rules.specs.Trial.{liftBound, pushBound}
 use Rattle.rules.specs.Settle.{squares}
 use Rattle.rules.specs.Balance.{balance}
 use Rattle.rules.specs.LowerBound.{share, confined, lowerBound, isShare, witnessed}
+use Rattle.rules.specs.Round.{multiples, closeTo}
 use Rattle.rules.specs.Plan.{plan}
 use Rattle.theory.proofs.Logic.{or-left, or-right}
 use Rattle.theory.proofs.View.{any-at, most-left, most-right}
 use Rattle.theory.proofs.Valid.{Valid, Permitted}
 use Rattle.theory.proofs.Makespan.{makespan-le, longest-some, longest-makespan}
+use Rattle.theory.proofs.Round.{close-mk, multiples-apart, makespan-multiple, longest-multiple}
 use Rattle.theory.proofs.Settling.{settle-permitted, settle-equilibrium, settle-moves, settle-no-later}
 use Rattle.theory.proofs.Confined.{ceil-gt, share-makespan}
 use Rattle.theory.proofs.Trial.{ShowsLate, shows-late}
@@ -131,8 +134,13 @@ module _ (I : Instance) (x : Assignment) (v : Valid I) (w : Permitted I x) where
     late unfailed y z = omega (arith, longest-makespan v z, longest-pos)
     late (showed f g h) y z = omega (arith, shows-late I f g h longest-pos y z)
 
-    pub plan-close : (y : Assignment) → Permitted I y → plan I x .makespan + 1 ≤ makespan I y + longest I
-    plan-close y z = omega (arith, plan-loads, late plan-showing y z)
+    -- above it by less than longest; all three are multiples of g, so by longest − g or less
+    pub plan-close : (g : ℕ) → multiples I g ≡ true → (y : Assignment) → Permitted I y
+        → closeTo I g (plan I x .makespan) (makespan I y) ≡ true
+    plan-close g e y z =
+        let a : g ∣ plan I x .makespan = rw plan-makespan (makespan-multiple I g e (plan I x .assignment)) in
+        let b : g ∣ makespan I y + longest I = dvd-add _ (makespan-multiple I g e y) (longest-multiple I g e) in
+        close-mk I _ _ _ (omega (arith, multiples-apart g _ _ a b (omega (arith, plan-loads, late plan-showing y z))))
 
     -- the lower bound is one
     below : {p : ℕ} {g : List ℕ} → Showing I p g → (y : Assignment) → Permitted I y → lowerBound I g ≤ makespan I y
@@ -151,8 +159,8 @@ module _ (I : Instance) (x : Assignment) (v : Valid I) (w : Permitted I x) where
     above unfailed = omega (arith, bound-longest I [], longest-pos)
     above (showed f g h) = omega (arith, bound-share I g (h .some), share-gt f g h)
 
-    pub plan-near-bound : plan I x .makespan + 1 ≤ plan I x .lowerBound + longest I
-    plan-near-bound = rw plan-bound (omega (arith, plan-loads, above plan-showing))
+    pub plan-near-bound : closeTo I 1 (plan I x .makespan) (plan I x .lowerBound) ≡ true
+    plan-near-bound = close-mk I 1 _ _ (rw plan-bound (omega (arith, plan-loads, above plan-showing)))
 
     pub plan-witness : witnessed I (plan I x .group) (plan I x .lowerBound) ≡ true
     plan-witness = rw plan-bound (bound-witness I (plan I x .group) some)

@@ -4,14 +4,16 @@ use Prim.Native.Nat.{ℕ, _+_, _≤_, _<_}
 use mathlib.Core.Path.{_≡_, refl, _∙_}
 use mathlib.Core.Bool.{true}
 use mathlib.Core.List.{List, [], _∷_}
+use native.Mathlib.Omega.{arith}
 use Rattle.rules.specs.Sheet.{Book, sound}
 use Rattle.rules.specs.Read.{read, accepted}
 use Rattle.rules.specs.Edit.{Edit, Edited, refused, edited, edit}
-use Rattle.rules.specs.Instance.{Assignment, instance, places, n}
+use Rattle.rules.specs.Instance.{Instance, Assignment, instance, places, n}
 use Rattle.rules.specs.Load.{longest, makespan, equilibrium, review}
 use Rattle.rules.specs.Trial.{atLevel, ended, liftBound, pushBound}
 use Rattle.rules.specs.Group.{trial}
 use Rattle.rules.specs.LowerBound.{witnessed}
+use Rattle.rules.specs.Round.{multiples, equalLengths, closeTo}
 use Rattle.rules.specs.Run.{Call, editing, reviewing, trying, planning, next, editBook, planBook}
 use Rattle.theory.proofs.Valid.{Valid, Permitted}
 use Rattle.theory.proofs.Sound.{read-sound, edit-sound, sound-valid, sound-permitted, placed-sound, placed-places, placed-instance, jobs-count}
@@ -20,6 +22,7 @@ use Rattle.theory.proofs.Heights.{permitted-partial}
 use Rattle.theory.proofs.Ending.{trial-lifts, trial-pushes}
 use Rattle.theory.proofs.Trial.{Outcome, outcome}
 use Rattle.theory.proofs.Balancing.{Counts}
+use Rattle.theory.proofs.Round.{close-le, multiples-one, multiples-equal}
 use Rattle.theory.proofs.Planning.{plan-permitted, plan-settled, plan-counts, plan-makespan, plan-no-later, plan-close, plan-bound-below, plan-near-bound, plan-witness}
 
 -- ---- what is claimed on a book
@@ -43,12 +46,13 @@ pub record Plans (k : Book) : Type 0 where
   pub same : instance (next k planning) ≡ instance k
   pub counts : Counts (instance k) (places k) (planBook k .level) (planBook k .lifts) (planBook k .pushes)
 
--- of planning, on a book with a batch: at most longest − 1 above any permitted plan, and above the lower bound
+-- of planning, on a book with a batch: for each g of which all lengths are multiples, at most longest − g above any permitted plan; and
+-- at most longest − 1 above the lower bound
 pub record Bounds (k : Book) : Type 0 where
-  pub close : (y : Assignment) → Permitted (instance k) y
-      → planBook k .makespan + 1 ≤ makespan (instance k) y + longest (instance k)
+  pub close : (g : ℕ) → multiples (instance k) g ≡ true → (y : Assignment) → Permitted (instance k) y
+      → closeTo (instance k) g (planBook k .makespan) (makespan (instance k) y) ≡ true
   pub below : (y : Assignment) → Permitted (instance k) y → planBook k .lowerBound ≤ makespan (instance k) y
-  pub near : planBook k .makespan + 1 ≤ planBook k .lowerBound + longest (instance k)
+  pub near : closeTo (instance k) 1 (planBook k .makespan) (planBook k .lowerBound) ≡ true
   pub witness : witnessed (instance k) (planBook k .group) (planBook k .lowerBound) ≡ true
 
 -- of review: settled is answered exactly when no batch improves
@@ -107,6 +111,23 @@ sound-claims k e =
         witness = plan-witness I x v w some;
       };
     }
+
+-- ---- what the bound says for any lengths, and for equal ones
+
+module _ {k : Book} (h : Bounds k) where
+  abbrev I : Instance
+  I = instance k
+
+  close-at : (g : ℕ) → multiples I g ≡ true → (y : Assignment) → Permitted I y → planBook k .makespan + g ≤ makespan I y + longest I
+  close-at g e y w = close-le I g _ _ (h .close g e y w)
+
+  -- g = 1: at most longest − 1 above any permitted plan
+  pub close-any : (y : Assignment) → Permitted I y → planBook k .makespan + 1 ≤ makespan I y + longest I
+  close-any = close-at 1 (multiples-one I)
+
+  -- g = longest: a best plan
+  pub close-equal : equalLengths I ≡ true → (y : Assignment) → Permitted I y → planBook k .makespan ≤ makespan I y
+  close-equal e y w = omega (arith, close-at (longest I) (multiples-equal I e) y w)
 
 -- ---- along a list of calls
 

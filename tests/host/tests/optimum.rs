@@ -37,9 +37,29 @@ fn loads(draft: &Draft, place: impl Fn(usize) -> u32) -> [u32; 25] {
     loads
 }
 
+/// The finish of the plan that the sheet has.
+fn standing(draft: &Draft) -> u32 {
+    let loads = loads(draft, |i| {
+        let line = &draft.lines[i];
+        line.given().unwrap_or(line.list[0])
+    });
+    *loads.iter().max().unwrap()
+}
+
 fn longest(draft: &Draft) -> u32 {
     let lengths = draft.lines.iter().map(|line| line.length);
     lengths.max().unwrap_or(0)
+}
+
+/// The greatest number of which every length is a multiple.
+fn divisor(draft: &Draft) -> u32 {
+    let lengths = draft.lines.iter().map(|line| line.length);
+    lengths.fold(0, |mut a, mut b| {
+        while b > 0 {
+            (a, b) = (b, a % b);
+        }
+        a
+    })
 }
 
 /// What holds of any listing, small or not.
@@ -50,12 +70,8 @@ fn laws(draft: &Draft, listing: &Listing) {
         assert!(line.list.contains(&batch[1]), "a permitted plan");
     }
     let now = loads(draft, |i| listing.batches[i][1]);
-    let old = loads(draft, |i| {
-        let line = &draft.lines[i];
-        line.given().unwrap_or(line.list[0])
-    });
     assert_eq!(Some(&listing.finish), now.iter().max());
-    assert!(Some(&listing.finish) <= old.iter().max());
+    assert!(listing.finish <= standing(draft));
     for (line, batch) in draft.lines.iter().zip(&listing.batches) {
         let here = now[batch[1] as usize];
         let mut others = line.list.iter().filter(|&&j| j != batch[1]);
@@ -77,6 +93,22 @@ fn laws(draft: &Draft, listing: &Listing) {
     }
 }
 
+/// A listing of a sheet with few plans against all of them, and the earliest
+/// finish of any.
+fn compared(draft: &Draft) -> (Listing, u32) {
+    let listing = listing(draft);
+    laws(draft, &listing);
+    let optimum = optimum(draft, 0, &mut [0; 25]);
+    assert!(listing.floor <= optimum && optimum <= listing.finish);
+    if !draft.lines.is_empty() {
+        // Above the best by at most the longest less g, for every g of which
+        // all lengths are multiples: so for the greatest one.
+        let latest = optimum + longest(draft) - divisor(draft);
+        assert!(listing.finish <= latest, "{draft:?}");
+    }
+    (listing, optimum)
+}
+
 #[test]
 fn small_sheets() {
     let mut rng = Rng::new(51);
@@ -88,18 +120,12 @@ fn small_sheets() {
             lengths: [(1, 9), (1, 60), (1, 1440)][round % 3],
         };
         let draft = gen::draft(&mut rng, shape);
-        let listing = listing(&draft);
-        laws(&draft, &listing);
+        let (listing, optimum) = compared(&draft);
         if draft.lines.is_empty() {
             assert_eq!((listing.finish, listing.floor), (0, 0));
             empty += 1;
             continue;
         }
-        let optimum = optimum(&draft, 0, &mut [0; 25]);
-        assert!(optimum <= listing.finish);
-        // At most the longest less one minute later.
-        assert!(listing.finish < optimum + longest(&draft), "{draft:?}");
-        assert!(listing.floor <= optimum, "{draft:?}");
         match listing.finish == optimum {
             true => best += 1,
             false => later += 1,
@@ -114,6 +140,56 @@ fn small_sheets() {
     );
     let counts = [best, later, tight, loose, empty];
     assert!(counts.into_iter().all(|count| count >= 200), "{counts:?}");
+}
+
+/// Lengths that are multiples of one number: how often a plan is as late as the
+/// bound allows.
+#[test]
+fn round_lengths() {
+    let mut rng = Rng::new(53);
+    for step in [2, 3, 5, 15] {
+        let (mut reached, mut earlier) = (0, 0);
+        for round in 0..10_000 {
+            let shape = Shape {
+                instruments: (2, 4),
+                batches: (2, 6),
+                lengths: (1, [2, 2, 3, 1440 / step][round % 4]),
+            };
+            let mut draft = gen::draft(&mut rng, shape);
+            draft.lines.iter_mut().for_each(|line| line.length *= step);
+            let (listing, optimum) = compared(&draft);
+            match longest(&draft) - divisor(&draft) {
+                // Equal lengths, which have a test of their own.
+                0 => (),
+                most if listing.finish == optimum + most => reached += 1,
+                _ => earlier += 1,
+            }
+        }
+        println!("multiples of {step}: the bound reached {reached} times, not {earlier} times");
+        assert!(reached >= 50 && earlier >= 1_000);
+    }
+}
+
+/// Equal lengths: the plan is a best one, also where the floor is below it.
+#[test]
+fn equal_lengths() {
+    let mut rng = Rng::new(54);
+    let (mut below, mut improved) = (0, 0);
+    for _ in 0..10_000 {
+        let length = rng.within(1, 1440);
+        let shape = Shape {
+            instruments: (1, 4),
+            batches: (1, 7),
+            lengths: (length, length),
+        };
+        let draft = gen::draft(&mut rng, shape);
+        let (listing, optimum) = compared(&draft);
+        assert_eq!(listing.finish, optimum, "{draft:?}");
+        below += (listing.floor < optimum) as usize;
+        improved += (optimum < standing(&draft)) as usize;
+    }
+    println!("equal lengths: all best, {improved} improved, {below} with a floor below");
+    assert!(below >= 1_000 && improved >= 1_000);
 }
 
 #[test]
