@@ -143,7 +143,7 @@ fn small_sheets() {
 }
 
 /// Lengths that are multiples of one number: how often a plan is as late as the
-/// bound allows.
+/// bound for that number allows.
 #[test]
 fn round_lengths() {
     let mut rng = Rng::new(53);
@@ -158,7 +158,7 @@ fn round_lengths() {
             let mut draft = gen::draft(&mut rng, shape);
             draft.lines.iter_mut().for_each(|line| line.length *= step);
             let (listing, optimum) = compared(&draft);
-            match longest(&draft) - divisor(&draft) {
+            match longest(&draft) - step {
                 // Equal lengths, which have a test of their own.
                 0 => (),
                 most if listing.finish == optimum + most => reached += 1,
