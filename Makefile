@@ -1,10 +1,11 @@
-# make                                the static library and both programs, proved: some minutes
+# make                                the static library and the programs, proved: some minutes
 # make test                           every test, from nothing
 # make install PREFIX=.. DESTDIR=..   header, library and programs, once they are made
 # make uninstall PREFIX=.. DESTDIR=..
 
 PREFIX = /usr/local
 DESTDIR =
+PROGRAMS = bankplan bankrun bankwrite
 
 INCLUDE = $(DESTDIR)$(PREFIX)/include
 LIB = $(DESTDIR)$(PREFIX)/lib
@@ -15,22 +16,21 @@ BIN = $(DESTDIR)$(PREFIX)/bin
 all:
 	rt staticlib host
 	cp -f target/staticlib/libhost.a target/staticlib/libbankplan.a
-	rt check bankplan bankrun
+	rt check $(PROGRAMS)
 
 test:
 	bash scripts/test.sh
 
 install:
-	@for f in target/staticlib/libbankplan.a target/bin/bankplan target/bin/bankrun; do \
+	@for f in target/staticlib/libbankplan.a $(PROGRAMS:%=target/bin/%); do \
 		[ -f $$f ] || { echo "missing: $$f; run make first" >&2; exit 1; }; \
 	done
 	mkdir -p "$(INCLUDE)" "$(LIB)" "$(BIN)"
 	cp -f include/bankplan.h "$(INCLUDE)/bankplan.h"
 	cp -f target/staticlib/libbankplan.a "$(LIB)/libbankplan.a"
-	cp -f target/bin/bankplan "$(BIN)/bankplan"
-	cp -f target/bin/bankrun "$(BIN)/bankrun"
 	chmod 644 "$(INCLUDE)/bankplan.h" "$(LIB)/libbankplan.a"
-	chmod 755 "$(BIN)/bankplan" "$(BIN)/bankrun"
+	for f in $(PROGRAMS); do cp -f target/bin/$$f "$(BIN)/$$f" && chmod 755 "$(BIN)/$$f" || exit 1; done
 
 uninstall:
-	rm -f "$(INCLUDE)/bankplan.h" "$(LIB)/libbankplan.a" "$(BIN)/bankplan" "$(BIN)/bankrun"
+	rm -f "$(INCLUDE)/bankplan.h" "$(LIB)/libbankplan.a"
+	for f in $(PROGRAMS); do rm -f "$(BIN)/$$f"; done

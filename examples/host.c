@@ -1,6 +1,6 @@
 /*
  * A host in C: plans the sheet in a file and prints the listing, then runs the journal in another file on the same sheet and
- * prints, after an empty line, the answers.
+ * prints, each after an empty line, the answers and the sheet as the journal leaves it.
  *
  *   host SHEET JOURNAL
  *
@@ -34,9 +34,11 @@ static const char *words(uint32_t refusal)
     }
 }
 
-static void say_refusal(const char *name, uint32_t refusal, size_t line)
+/* A refusal is the sheet's, or the journal's where it says so. */
+static void say_refusal(bankplan_answer refused, const char *sheet_name, const char *journal_name)
 {
-    fprintf(stderr, "host: %s: line %zu: refusal %lu, %s\n", name, line, (unsigned long)refusal, words(refusal));
+    fprintf(stderr, "host: %s: line %zu: refusal %lu, %s\n", refused.refusal == BANKPLAN_BAD_JOURNAL ? journal_name : sheet_name,
+            refused.line, (unsigned long)refused.refusal, words(refused.refusal));
 }
 
 /* Twice the room for a buffer, or 0 where there is none; the buffer is then as it was. */
@@ -111,7 +113,7 @@ static int plan(const char *name, const struct bytes *sheet)
 
     planned = bankplan_plan(sheet->at, sheet->length, listing, sizeof listing);
     if (planned.refusal != BANKPLAN_NO_REFUSAL) {
-        say_refusal(name, planned.refusal, planned.line);
+        say_refusal(planned, name, NULL);
         return 0;
     }
     return print(listing, planned.length);
@@ -141,12 +143,24 @@ static int run(const char *sheet_name, const struct bytes *sheet, const char *jo
     }
     if (ran.refusal == BANKPLAN_NO_REFUSAL)
         good = print(answers, ran.length);
-    else if (ran.refusal == BANKPLAN_BAD_JOURNAL)
-        say_refusal(journal_name, ran.refusal, ran.line);
     else
-        say_refusal(sheet_name, ran.refusal, ran.line);
+        say_refusal(ran, sheet_name, journal_name);
     free(answers);
     return good;
+}
+
+/* Prints the sheet as the journal leaves it. Every sheet fits this buffer. */
+static int write_back(const char *sheet_name, const struct bytes *sheet, const char *journal_name, const struct bytes *journal)
+{
+    uint8_t written[BANKPLAN_LARGEST_SHEET];
+    bankplan_answer wrote;
+
+    wrote = bankplan_write(sheet->at, sheet->length, journal->at, journal->length, written, sizeof written);
+    if (wrote.refusal != BANKPLAN_NO_REFUSAL) {
+        say_refusal(wrote, sheet_name, journal_name);
+        return 0;
+    }
+    return print(written, wrote.length);
 }
 
 int main(int argc, char **argv)
@@ -160,7 +174,8 @@ int main(int argc, char **argv)
         return 2;
     }
     good = read_file(argv[1], &sheet) && read_file(argv[2], &journal) && plan(argv[1], &sheet) &&
-           print((const uint8_t *)"\n", 1) && run(argv[1], &sheet, argv[2], &journal);
+           print((const uint8_t *)"\n", 1) && run(argv[1], &sheet, argv[2], &journal) &&
+           print((const uint8_t *)"\n", 1) && write_back(argv[1], &sheet, argv[2], &journal);
     free(sheet.at);
     free(journal.at);
     if (fclose(stdout) != 0) {

@@ -1,15 +1,16 @@
 /*
  * The bank queue planner for hosts in C and C++ (Linux, x86-64).
  *
- * Two calls. bankplan_plan reads a sheet, plans it and writes the listing. bankplan_run reads a sheet, makes a list of calls on it, one
- * after the other, and writes their answers. Both take any bytes and any lengths, and answer a refusal where something is wrong.
+ * Three calls. bankplan_plan reads a sheet, plans it and writes the listing. bankplan_run reads a sheet, makes a list of calls on it, one
+ * after the other, and writes their answers. bankplan_write makes them too, and writes the sheet that they leave. All take any bytes and
+ * any lengths, and answer a refusal where something is wrong.
  *
  * What a host owes on each call:
- *   - Every pointer is valid for its length: that many bytes may be read, or, in the lent buffer (listing, answers), written.
+ *   - Every pointer is valid for its length: that many bytes may be read, or, in the lent buffer, which comes last, written.
  *   - No pointer is null, not even beside a length of 0. Any valid pointer will do there.
  *   - The lent buffer overlaps neither the sheet nor the journal, and no other thread uses it until the call returns. Nothing
  *     writes to the sheet or the journal meanwhile.
- *   - The thread has 128 kB of stack left. (Calls were measured at 75 kB; this is not proved.)
+ *   - The thread has 128 kB of stack left. (Calls were measured at 102 kB; this is not proved.)
  *
  * What the library promises:
  *   - It reads only the sheet and the journal, and writes only to the lent buffer, at its front. Bytes past the text keep their values.
@@ -43,6 +44,9 @@ extern "C" {
 /* The longest line of an answer in bytes, its LF included: so many for each line of the journal are always enough for bankplan_run. */
 #define BANKPLAN_LONGEST_ANSWER 1225
 
+/* The largest written sheet in bytes: a buffer of this size never gets BANKPLAN_BUFFER_SHORT from bankplan_write. */
+#define BANKPLAN_LARGEST_SHEET 32613
+
 /*
  * Refusals. 1 to 5 are those of a sheet, and come with the line. 3 to 8 are those of a single call of a journal: they stand in its
  * answers, and the run goes on. 9 and 19 are the host's own.
@@ -61,9 +65,9 @@ enum bankplan_refusal {
     BANKPLAN_BAD_JOURNAL = 19  /* the journal is not of its form */
 };
 
-/* What both calls answer. */
+/* What every call answers. */
 typedef struct bankplan_answer {
-    uint32_t refusal; /* 0 for none, 1 to 5, or 9; from bankplan_run also 19 */
+    uint32_t refusal; /* 0 for none, 1 to 5, or 9; with a journal also 19 */
     size_t line;      /* the sheet's line of refusals 1 to 5, the journal's of 19, both from 1; otherwise 0 */
     size_t length;    /* the bytes written; 0 on a refusal */
 } bankplan_answer;
@@ -112,6 +116,20 @@ bankplan_answer bankplan_plan(const uint8_t *sheet, size_t sheet_length, uint8_t
  */
 bankplan_answer bankplan_run(const uint8_t *sheet, size_t sheet_length, const uint8_t *journal, size_t journal_length,
                              uint8_t *answers, size_t answers_length);
+
+/*
+ * Makes a journal's calls on a sheet as bankplan_run does, and writes the sheet that they leave at the front of the lent buffer. An empty
+ * journal writes the sheet back.
+ *
+ * The written sheet is one that can be read, and reading it gives the very sheet that the calls left, so the next journal may start
+ * from it. Every place is the true one, never 0 or blank, and lists keep their order. A sheet written back has as many bytes as the
+ * one that was read, and differs from it at most in places that were 0 or blank.
+ *
+ * Refusals and their order are those of bankplan_run. A call of the journal that is refused leaves the sheet as it was, and the run goes
+ * on; only bankplan_run's answers tell which one it was.
+ */
+bankplan_answer bankplan_write(const uint8_t *sheet, size_t sheet_length, const uint8_t *journal, size_t journal_length,
+                               uint8_t *written, size_t written_length);
 
 #ifdef __cplusplus
 }

@@ -34,7 +34,8 @@ bash scripts/alive.sh
 log=$(mktemp)
 rust=$(mktemp)
 trap 'kill "$beside" 2>/dev/null || true; rm -f "$log" "$rust"' EXIT
-(cd tests && cargo test --offline --quiet -p second && cargo test --offline --quiet --no-run -p against) >"$rust" 2>&1 &
+# The other tests are compiled meanwhile, ahead of the library that they call. The proofs come first where both want a processor.
+(cd tests && nice cargo test --offline --quiet -p second && BANKPLAN_LATER=1 nice cargo test --offline --quiet --no-run -p host) >"$rust" 2>&1 &
 beside=$!
 
 echo "== proofs, must-fail edits and programs; beside them the second planner's own tests"
@@ -48,14 +49,11 @@ wait "$beside" || status=$?
 cat "$rust"
 [ "$status" = 0 ] || exit 1
 
-echo "== the static library; beside it the planner against the second one"
-(cd tests && cargo test --offline --quiet -p against) &
-beside=$!
+echo "== the static library"
 rt staticlib host
 cp -f target/staticlib/libhost.a target/staticlib/libbankplan.a
-wait "$beside"
 
-echo "== a host in C, and the other tests in Rust"
+echo "== a host in C, and the planner against the second one in Rust"
 bash scripts/host.sh
 (cd tests && cargo test --offline --quiet -p host)
 

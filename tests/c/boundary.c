@@ -1,5 +1,5 @@
 /*
- * The two calls at their edges, from C: refused sheets, malformed journals, buffers that are too short, that just fit and that are
+ * The three calls at their edges, from C: refused sheets, malformed journals, buffers that are too short, that just fit and that are
  * longer, and the largest texts. Ends with 0 where all is as it should be; otherwise says each line that is not, and ends with 1.
  */
 #include <stdint.h>
@@ -10,7 +10,7 @@
 
 _Static_assert(sizeof(bankplan_answer) == 24, "three words of 64 bits, the first half used");
 
-#define ROOM 8192
+#define ROOM (BANKPLAN_LARGEST_SHEET + 1)
 #define UNTOUCHED 0xA5
 
 static uint8_t buffer[ROOM];
@@ -52,6 +52,12 @@ static bankplan_answer run(const char *sheet, const char *journal, size_t room)
     return bankplan_run((const uint8_t *)sheet, strlen(sheet), (const uint8_t *)journal, strlen(journal), buffer, room);
 }
 
+static bankplan_answer write_back(const char *sheet, const char *journal, size_t room)
+{
+    memset(buffer, UNTOUCHED, ROOM);
+    return bankplan_write((const uint8_t *)sheet, strlen(sheet), (const uint8_t *)journal, strlen(journal), buffer, room);
+}
+
 static int answered(bankplan_answer a, uint32_t refusal, size_t line, size_t length)
 {
     return a.refusal == refusal && a.line == line && a.length == length;
@@ -74,6 +80,10 @@ static const char journal[] = "     4     3     2\n"
 static const char answers[] = "     0\n"
                               "     6\n"
                               "     0    50     1    50    10\n";
+static const char written[] = "     2     3\n"
+                              "    30     1     2     1     2\n"
+                              "    20     1     1     1\n"
+                              "    10     2     2     1     2\n";
 
 static void sheets(void)
 {
@@ -92,6 +102,20 @@ static void sheets(void)
     CHECK(answered(plan("     2     1\n    10     1           1\n", ROOM), BANKPLAN_MALFORMED, 2, 0) && holds(""));
     /* a sheet's fault comes before a short buffer */
     CHECK(answered(plan(too_long, 0), BANKPLAN_BAD_LENGTH, 2, 0) && holds(""));
+    CHECK(answered(write_back(too_long, "", 0), BANKPLAN_BAD_LENGTH, 2, 0) && holds(""));
+    CHECK(answered(write_back("", "", ROOM), BANKPLAN_MALFORMED, 1, 0) && holds(""));
+}
+
+static void written_sheets(void)
+{
+    CHECK(answered(write_back(sheet, "", ROOM), 0, 0, strlen(sheet)) && holds(sheet));
+    CHECK(answered(write_back(sheet, journal, ROOM), 0, 0, strlen(written)) && holds(written));
+    CHECK(answered(write_back(written, "", ROOM), 0, 0, strlen(written)) && holds(written));
+    /* no batch is left */
+    CHECK(answered(write_back(sheet, "     2     3\n     2     2\n     2     1\n", ROOM), 0, 0, 13) && holds("     2     0\n"));
+    /* places that are 0 or blank are filled in, and lists keep their order */
+    CHECK(answered(write_back("     2     2\n    10           2     2     1\n    15     0     1     1\n", "", ROOM), 0, 0, 13 + 31 + 25) &&
+          holds("     2     2\n    10     2     2     2     1\n    15     1     1     1\n"));
 }
 
 static void short_buffers(void)
@@ -104,6 +128,9 @@ static void short_buffers(void)
     for (room = 0; room < strlen(answers); room++)
         CHECK(answered(run(sheet, journal, room), BANKPLAN_BUFFER_SHORT, 0, 0) && holds(""));
     CHECK(answered(run(sheet, journal, strlen(answers)), 0, 0, strlen(answers)) && holds(answers));
+    for (room = 0; room < strlen(written); room++)
+        CHECK(answered(write_back(sheet, journal, room), BANKPLAN_BUFFER_SHORT, 0, 0) && holds(""));
+    CHECK(answered(write_back(sheet, journal, strlen(written)), 0, 0, strlen(written)) && holds(written));
 }
 
 static void journals(void)
@@ -118,31 +145,46 @@ static void journals(void)
     /* a sheet's fault comes before a journal's, and that before a short buffer */
     CHECK(answered(run(too_long, "\n", ROOM), BANKPLAN_BAD_LENGTH, 2, 0) && holds(""));
     CHECK(answered(run(sheet, "\n", 0), BANKPLAN_BAD_JOURNAL, 1, 0) && holds(""));
+    CHECK(answered(write_back(sheet, "     4     3     2\n     7", ROOM), BANKPLAN_BAD_JOURNAL, 2, 0) && holds(""));
+    CHECK(answered(write_back(too_long, "\n", ROOM), BANKPLAN_BAD_LENGTH, 2, 0) && holds(""));
+    CHECK(answered(write_back(sheet, "\n", 0), BANKPLAN_BAD_JOURNAL, 1, 0) && holds(""));
 }
 
-/* 200 batches that any of 24 instruments may run: the largest listing, and a trial's answer with 200 places, which is the longest. */
-static void largest(void)
+/* 200 batches at this place that any of 24 instruments may run. */
+static void fill(char *to, int place)
 {
-    static char full[BANKPLAN_MOST_BATCHES * 164 + 14];
-    char *to = full;
     int batch, instrument;
 
     to += sprintf(to, "%6d%6d\n", BANKPLAN_MOST_INSTRUMENTS, BANKPLAN_MOST_BATCHES);
     for (batch = 1; batch <= BANKPLAN_MOST_BATCHES; batch++) {
-        to += sprintf(to, "%6d%6d%6d", BANKPLAN_MOST_MINUTES, 0, BANKPLAN_MOST_INSTRUMENTS);
-        for (instrument = 1; instrument <= BANKPLAN_MOST_INSTRUMENTS; instrument++)
+        to += sprintf(to, "%6d%6d%6d", BANKPLAN_MOST_MINUTES, place, BANKPLAN_MOST_INSTRUMENTS);
+        for (instrument = BANKPLAN_MOST_INSTRUMENTS; instrument >= 1; instrument--)
             to += sprintf(to, "%6d", instrument);
         to += sprintf(to, "\n");
     }
+}
+
+/* The largest listing, a trial's answer with 200 places, which is the longest, and the largest written sheet. */
+static void largest(void)
+{
+    static char full[BANKPLAN_LARGEST_SHEET + 1], filled[BANKPLAN_LARGEST_SHEET + 1];
+
+    fill(full, 0);
+    fill(filled, BANKPLAN_MOST_INSTRUMENTS);
+    CHECK(strlen(filled) == BANKPLAN_LARGEST_SHEET);
     CHECK(answered(plan(full, BANKPLAN_LARGEST_LISTING - 1), BANKPLAN_BUFFER_SHORT, 0, 0) && holds(""));
     CHECK(answered(plan(full, BANKPLAN_LARGEST_LISTING), 0, 0, BANKPLAN_LARGEST_LISTING));
     CHECK(answered(run(full, "     6288000\n", BANKPLAN_LONGEST_ANSWER - 1), BANKPLAN_BUFFER_SHORT, 0, 0) && holds(""));
     CHECK(answered(run(full, "     6288000\n", BANKPLAN_LONGEST_ANSWER), 0, 0, BANKPLAN_LONGEST_ANSWER));
+    CHECK(answered(write_back(full, "", BANKPLAN_LARGEST_SHEET - 1), BANKPLAN_BUFFER_SHORT, 0, 0) && holds(""));
+    CHECK(answered(write_back(full, "", BANKPLAN_LARGEST_SHEET), 0, 0, BANKPLAN_LARGEST_SHEET) && holds(filled));
+    CHECK(answered(write_back(full, "     1    10     1     1\n", ROOM), 0, 0, BANKPLAN_LARGEST_SHEET) && holds(filled));
 }
 
 int main(void)
 {
     sheets();
+    written_sheets();
     short_buffers();
     journals();
     largest();

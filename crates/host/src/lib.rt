@@ -1,11 +1,12 @@
 // The calls for hosts in C. To C each slice is a pointer and a length.
 ghost use mathlib.Core.Path.{_≡_};
 ghost use Rattle.rules.specs.Listing.{host};
-ghost use Rattle.rules.specs.Journal.{runHost};
-ghost use Rattle.listing.specs.Host.{hostedOf};
+ghost use Rattle.rules.specs.Journal.{runHost, writeHost};
+ghost use Rattle.text.specs.Answer.{hostedOf};
 use journal::run::run_into;
-use listing::host::Hosted;
 use listing::host::plan_into;
+use text::Hosted;
+use written::write::write_into;
 
 // Plans a sheet of any bytes and writes its listing:
 //   Hosted bankplan_plan(const uint8_t *sheet, size_t sheet_length, uint8_t *listing, size_t listing_length);
@@ -24,4 +25,14 @@ pub extern "C" fn bankplan_run(sheet: &[u8], journal: &[u8], answers: &mut [u8])
     ensures { λ r. ⌜ hostedOf r (now (answers .exit)) ≡ runHost (now (sheet .entry)) (now (journal .entry)) (now (answers .entry)) ⌝ }
 {
     run_into(sheet, journal, answers)
+}
+
+// Makes the calls of a journal of any bytes on a sheet of any bytes, and writes the file of the sheet that they leave:
+//   Hosted bankplan_write(const uint8_t *sheet, size_t sheet_length, const uint8_t *journal, size_t journal_length,
+//                      uint8_t *written, size_t written_length);
+#[no_mangle]
+pub extern "C" fn bankplan_write(sheet: &[u8], journal: &[u8], written: &mut [u8]) -> Hosted
+    ensures { λ r. ⌜ hostedOf r (now (written .exit)) ≡ writeHost (now (sheet .entry)) (now (journal .entry)) (now (written .entry)) ⌝ }
+{
+    write_into(sheet, journal, written)
 }

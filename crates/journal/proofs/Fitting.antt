@@ -18,6 +18,7 @@ use Rattle.rules.specs.Plan.{plan}
 use Rattle.rules.specs.Run.{Call, Answer, refused, done, reviewed, tried, planned, answer, answerNumbers, editAnswer, tryAnswer, planBook}
 use Rattle.rules.specs.Run as R
 use Rattle.rules.specs.Journal.{answerLine}
+use Rattle.theory.proofs.Refusal.{number-range}
 use Rattle.theory.proofs.Logic.{conflict}
 use Rattle.theory.proofs.View.{First, nowhere, found, first}
 use Rattle.theory.proofs.Valid.{on-machine}
@@ -33,8 +34,8 @@ use Rattle.sheet.specs.declared.Sheet.{Sheet}
 use Rattle.sheet.specs.Represent.{Sound, bookOf}
 use Rattle.theory.proofs.Entries.{length-listTo}
 use Rattle.sheet.proofs.SoundViews.{view-instruments, view-batches, view-valid, view-permitted, view-small}
-use Rattle.listing.proofs.Fields.{fields-length, line-length}
-use Rattle.listing.proofs.Figures.{plan-fits, group-few}
+use Rattle.theory.proofs.Fields.{fields-length, line-length}
+use Rattle.planner.proofs.Figures.{plan-fits, group-few}
 use Rattle.journal.specs.Answering.{isPlan, lineOf, lineLength, SixColumns, Fitting}
 use Rattle.journal.proofs.Small.{small-none, small-more, small-one, small-to, small-mem, small-by}
 
@@ -49,15 +50,7 @@ plain l h s = record {
 }
 
 pub refusal-small : (e : N.Refusal) → N.number e < 1000000
-refusal-small N.malformed = omega arith
-refusal-small N.badSize = omega arith
-refusal-small N.badLength = omega arith
-refusal-small N.badList = omega arith
-refusal-small N.badPlace = omega arith
-refusal-small N.noBatch = omega arith
-refusal-small N.sheetFull = omega arith
-refusal-small N.levelAbove = omega arith
-refusal-small N.bufferShort = omega arith
+refusal-small e = omega (arith, number-range e .1)
 
 refusal-fits : (e : N.Refusal) → Fitting false (N.number e ∷ [])
 refusal-fits e = plain (N.number e ∷ []) (omega arith) (small-one (N.number e) (refusal-small e))

@@ -6,7 +6,7 @@ use native.Mathlib.Omega.{arith}
 use lib.ListN.{length, take, drop, length-append, replicate}
 use lib.Seq.{take-at, paste}
 use Rattle.rules.specs.Sheet.{Book, sound}
-use Rattle.rules.specs.Run.{Call, answer, next, answers, answerNumbers}
+use Rattle.rules.specs.Run.{Call, answer, next, bookAfter, answers, answerNumbers}
 use Rattle.rules.specs.Journal.{Journal, calls, faulty, withCall, journal, callLine, answerLine, answerLines}
 use Rattle.theory.proofs.Logic.{byTest}
 use Rattle.theory.proofs.Runs.{next-sound}
@@ -14,12 +14,12 @@ use Rattle.sheet.specs.declared.Sheet.{Sheet}
 use Rattle.sheet.specs.Represent.{Sound, sheetOf, bookOf, padded}
 use Rattle.sheet.proofs.Padded.{length-padded}
 use Rattle.sheet.proofs.Represent.{book-sheet, sheet-sound}
-use Rattle.listing.proofs.Pasted.{Wrote, wrote-none, wrote-more, wrote-start}
+use Rattle.text.proofs.Pasted.{Wrote, wrote-none, wrote-more, wrote-start}
 use Rattle.journal.specs.declared.entry.Entry.{Entry}
 use Rattle.journal.specs.declared.call.Made.{Made}
 use Rattle.journal.specs.Entry.{entryAs, entryOf, linesFrom}
 use Rattle.journal.specs.Answering.{callSaid, madeOf, isPlan, lineOf, lineLength, Fitting}
-use Rattle.journal.specs.Running.{Spells, textOf}
+use Rattle.journal.specs.Running.{Spells, textOf, bookLeft}
 use Rattle.journal.proofs.Calls.{EntryRead, count-kept}
 use Rattle.journal.proofs.Linewise.{journal-is, entry-given, lines-first, lines-fault, lines-end}
 use Rattle.journal.proofs.Said.{made-said}
@@ -78,9 +78,10 @@ pub record Going (k : Book) (j : List ℕ) (s : Sheet) (at : ℕ) : Type 0 where
   pub lines : linesFrom line (drop at j) ≡ calls left
   pub written : List ℕ
   pub whole : textOf k (journal j) ≡ written ++ answerLines (answers (bookOf s) left)
+  pub after : bookLeft k (journal j) ≡ bookAfter (bookOf s) left
 
 unfoldable pub going-start : (s : Sheet) → Sound s → (j : List ℕ) → Spells j → Going (bookOf s) j s 0
-unfolding textOf
+unfolding textOf bookLeft
 going-start s v j p = record {
   sound = v;
   room = omega arith;
@@ -89,6 +90,7 @@ going-start s v j p = record {
   lines = sym (journal-is j) ∙ p .same;
   written = [];
   whole = ap (textOf (bookOf s)) (p .same);
+  after = ap (bookLeft (bookOf s)) (p .same);
 }
 
 pub start-written : (s : Sheet) (v : Sound s) (j : List ℕ) (p : Spells j) → going-start s v j p .written ≡ []
@@ -136,6 +138,14 @@ module _ {k : Book} {j : List ℕ} {s : Sheet} {at : ℕ} (g : Going k j s at) w
         ∙ ap (λ (cs : List Call). g .written ++ answerLines (answers (bookOf s) cs)) (t .parts)
         ∙ ap (λ (z : Book). g .written ++ (answerLine (answer (bookOf s) c) ++ answerLines (answers z (t .rest)))) (sym b)
 
+    -- and the last sheet is the same
+    pub turn-after : bookLeft k (journal j) ≡ bookAfter (bookOf (m .sheet)) (t .rest)
+    unfolding bookAfter
+    turn-after =
+        g .after
+        ∙ ap (bookAfter (bookOf s)) (t .parts)
+        ∙ ap (λ (z : Book). bookAfter z (t .rest)) (sym (next-book s (g .sound) (t .given .call) m a))
+
     unfoldable pub going-on : Going k j (m .sheet) (e .next)
     going-on =
         let c = t .given .call in
@@ -149,6 +159,7 @@ module _ {k : Book} {j : List ℕ} {s : Sheet} {at : ℕ} (g : Going k j s at) w
           whole =
               turn-whole
               ∙ sym (append-assoc (g .written) (answerLine (answer (bookOf s) c)) (answerLines (answers (bookOf (m .sheet)) (t .rest))));
+          after = turn-after;
         }
 
     pub turn-written : length (going-on .written) ≡ length (g .written) + lineLength (m .plan) (m .size)
@@ -176,14 +187,20 @@ module _ {k : Book} {j : List ℕ} {s : Sheet} {at : ℕ} (g : Going k j s at) w
         omega (arith, ap length turn-whole, length-append (g .written) (l ++ r), length-append l r, a .bytes)
 
   -- no line is left
-  pub going-end : length j ≤ at → textOf k (journal j) ≡ g .written
-  unfolding answers answerLines
-  going-end h =
-      let z : g .left ≡ [] = none (g .left) (sym (g .lines) ∙ lines-end j at (g .line) h) in
-      g .whole ∙ ap (λ (cs : List Call). g .written ++ answerLines (answers (bookOf s) cs)) z ∙ append-nil (g .written)
+  none-left : length j ≤ at → g .left ≡ []
+  none-left h = none (g .left) (sym (g .lines) ∙ lines-end j at (g .line) h)
     where
       none : (cs : List Call) → calls cs ≡ calls [] → cs ≡ []
       none cs e = cc
+
+  pub going-end : length j ≤ at → textOf k (journal j) ≡ g .written
+  unfolding answers answerLines
+  going-end h =
+      g .whole ∙ ap (λ (cs : List Call). g .written ++ answerLines (answers (bookOf s) cs)) (none-left h) ∙ append-nil (g .written)
+
+  pub end-sheet : length j ≤ at → s ≡ sheetOf (bookLeft k (journal j))
+  unfolding bookAfter
+  end-sheet h = sym (g .sound .arrays) ∙ ap sheetOf (sym (g .after ∙ ap (bookAfter (bookOf s)) (none-left h)))
 
   pub end-wrote : {d e : List ℕ} {to : ℕ} → length j ≤ at → Wrote d 0 (g .written) to e
       → (to ≡ length (textOf k (journal j))) × (e ≡ textOf k (journal j) ++ drop to d)

@@ -1,23 +1,29 @@
 -- What the host gets, case by case, and what holds at each call of a run.
 use Prim.Native.Nat.{ℕ, zero, suc, _+_, _≤_, _<_}
-use mathlib.Core.Path.{_≡_, refl}
+use mathlib.Core.Path.{_≡_, refl, ap, _∙_}
 use mathlib.Core.Bool.{Bool, true, false}
-use mathlib.Core.List.{List, [], _++_}
+use mathlib.Core.List.{List, []}
 use native.Mathlib.Omega.{arith}
-use lib.Dec.{leb, eqb}
-use lib.ListN.{length, drop}
+use lib.Dec.{eqb}
+use lib.ListN.{length}
 use Rattle.rules.specs.Fold.{pick}
 use Rattle.rules.specs.Sheet.{Book}
-use Rattle.rules.specs.Read.{Part, gives, refuses, accepted, read}
-use Rattle.rules.specs.Run.{Call, answers}
-use Rattle.rules.specs.Journal.{Journal, calls, faulty, withCall, onCall, callLine, linesBy, journal, answerLines, ranOn, runHost}
-use Rattle.rules.specs.Listing.{intoBuffer}
+use Rattle.rules.specs.Read.{Part, gives, refuses, Reading, accepted, refusedAt, read}
+use Rattle.rules.specs.Run.{Call, bookAfter}
+use Rattle.rules.specs.Lent.{text, refusal, intoBuffer}
+use Rattle.rules.specs.Journal.{Journal, calls, faulty, withCall, onCall, callLine, linesBy, journal, runDue, answerText, runHost, sheetText, writeHost}
+use Rattle.theory.proofs.Refusal.{number-range}
+use Rattle.theory.proofs.Sound.{read-sound}
 use Rattle.theory.proofs.Runs.{Throughout, run-claims}
-use Rattle.sheet.specs.declared.Reading.{Reading}
+use Rattle.sheet.specs.declared.Sheet.{Sheet}
+use Rattle.sheet.specs.declared.Reading as D
+use Rattle.sheet.specs.Represent.{Sound, sheetOf, bookOf}
 use Rattle.sheet.specs.Answers.{numberOf}
-use Rattle.sheet.proofs.Accepted.{Refused}
+use Rattle.sheet.proofs.Accepted.{Accepted, Refused}
+use Rattle.sheet.proofs.Represent.{book-sheet, sheet-sound}
+use Rattle.journal.specs.declared.run.Left.{Left}
 use Rattle.journal.specs.Entry.{faultOf}
-use Rattle.journal.specs.Running.{Spells, textOf}
+use Rattle.journal.specs.Running.{Spells, textOf, bookLeft, noSheet, leftAs, bookBefore, judgedOf, leftOf}
 
 -- ---- a fault's line is one of 1 to m
 
@@ -57,66 +63,107 @@ spells j e = from (journal-numbered j) refl e
     from (formed cs) q e = record { made = cs; same = q }
     from (fault i h n) q e = absurd (omega arith)
 
--- ---- a journal on the book k
+-- ---- what a sheet's bytes and a journal's come to
 
-module _ (k : Book) (j buffer : List ℕ) where
-  -- a line that is not of the form
-  pub on-fault : (i : ℕ) → i ≡ faultOf (journal j) → (i ≡ 0 → ⊥)
-      → record { refusal = 19; line = i; length = 0; buffer = buffer } ≡ ranOn k (journal j) buffer
-  on-fault i e h = from (journal j) e
+module _ (f : Book → List Call → Book) (s j : List ℕ) where
+  -- the sheet is refused
+  pub left-unread : (r : D.Reading) (c : ℕ) → Refused s r → c ≡ numberOf (r .refusal) → noSheet c (r .line) ≡ leftAs f (read s) (journal j)
+  left-unread r c h e = rw (h .said, e, h .coded)
+
+  -- the journal is
+  pub left-faulty : (r : D.Reading) (i : ℕ) → Accepted s r → i ≡ faultOf (journal j) → (i ≡ 0 → ⊥)
+      → noSheet 19 i ≡ leftAs f (read s) (journal j)
+  left-faulty r i a e n = rw (a .book) (from (journal j) e)
     where
-      from : (l : Journal) → i ≡ faultOf l → record { refusal = 19; line = i; length = 0; buffer = buffer } ≡ ranOn k l buffer
-      from (calls cs) q = absurd (h q)
+      from : (l : Journal) → i ≡ faultOf l → noSheet 19 i ≡ leftAs f (accepted (bookOf (r .sheet))) l
+      from (calls cs) q = absurd (n q)
       from (faulty m) q = rw q
 
-  short-of : (cs : List Call) → leb (length (textOf k (calls cs))) (length buffer) ≡ false
-      → record { refusal = 9; line = 0; length = 0; buffer = buffer } ≡ ranOn k (calls cs) buffer
-  unfolding textOf
-  short-of cs t = rw t
+  -- neither is
+  pub left-good : (r : D.Reading) (t : Sheet) (p : Spells j) → Accepted s r → t ≡ sheetOf (f (bookOf (r .sheet)) (p .made))
+      → record { refusal = 0; line = 0; sheet = t } ≡ leftAs f (read s) (journal j)
+  left-good r t p a e = rw (a .book, p .same, e)
 
-  long-of : (cs : List Call) (c : ℕ) (after : List ℕ) → leb (length (textOf k (calls cs))) (length buffer) ≡ true
-      → c ≡ length (textOf k (calls cs)) → after ≡ textOf k (calls cs) ++ drop c buffer
-      → record { refusal = 0; line = 0; length = c; buffer = after } ≡ ranOn k (calls cs) buffer
-  unfolding textOf
-  long-of cs c after t e f = rw (f, e, t)
+  -- and what it means: a refusal is due, whatever text would have been
+  pub left-refused : (g : Book → List Call → List ℕ) (r : Left) → r ≡ leftAs f (read s) (journal j) → (r .refusal ≡ 0 → ⊥)
+      → runDue g (read s) (journal j) ≡ refusal (r .refusal) (r .line)
+  left-refused g r e n = from (read s) (journal j) e
+    where
+      from : (o : Reading) (l : Journal) → r ≡ leftAs f o l → runDue g o l ≡ refusal (r .refusal) (r .line)
+      from (accepted k) (calls cs) q = absurd (n (ap (λ (x : Left). x .refusal) q))
+      from (accepted k) (faulty i) q = rw q
+      from (refusedAt e i) l q = rw q
 
-  -- a buffer shorter than the answers
-  pub on-short : Spells j → leb (length (textOf k (journal j))) (length buffer) ≡ false
-      → record { refusal = 9; line = 0; length = 0; buffer = buffer } ≡ ranOn k (journal j) buffer
-  on-short p t = rw (p .same) (short-of (p .made) (rw (p .same) at t))
+  -- or there are a book and calls
+  pub record Went (r : Left) : Type 0 where
+    pub book : Book
+    pub file : read s ≡ accepted book
+    pub calls : Spells j
+    pub sheet : r .sheet ≡ sheetOf (f book (calls .made))
 
-  -- a buffer that is long enough
-  pub on-long : Spells j → leb (length (textOf k (journal j))) (length buffer) ≡ true → (c : ℕ) (after : List ℕ)
-      → c ≡ length (textOf k (journal j)) → after ≡ textOf k (journal j) ++ drop c buffer
-      → record { refusal = 0; line = 0; length = c; buffer = after } ≡ ranOn k (journal j) buffer
-  on-long p t c after e f = rw (p .same) (long-of (p .made) c after (rw (p .same) at t) (rw (p .same) at e) (rw (p .same) at f))
+  pub left-went : (r : Left) → r ≡ leftAs f (read s) (journal j) → r .refusal ≡ 0 → Went r
+  left-went r e z = from (read s) (journal j) refl refl e
+    where
+      from : (o : Reading) (l : Journal) → read s ≡ o → journal j ≡ l → r ≡ leftAs f o l → Went r
+      from (accepted k) (calls cs) p q h =
+          record { book = k; file = p; calls = record { made = cs; same = q }; sheet = ap (λ (x : Left). x .sheet) h }
+      from (accepted k) (faulty i) p q h = absurd (omega (arith, ap (λ (x : Left). x .refusal) h))
+      from (refusedAt g i) l p q h = absurd (omega (arith, ap (λ (x : Left). x .refusal) h, number-range g .0))
 
--- ---- any bytes
+-- ---- before the first call
 
--- a sheet that is refused
-pub run-refused : (s j buffer : List ℕ) (r : Reading) (c : ℕ) → Refused s r → c ≡ numberOf (r .refusal)
-    → record { refusal = c; line = r .line; length = 0; buffer = buffer } ≡ runHost s j buffer
-unfolding runHost
-run-refused s j buffer r c f e = rw (f .said, e, f .coded)
+module _ (s j : List ℕ) (r : Left) (e : r ≡ judgedOf s j) where
+  -- a refusal
+  pub run-refused : (buffer : List ℕ) → (r .refusal ≡ 0 → ⊥)
+      → record { refusal = r .refusal; line = r .line; length = 0; buffer = buffer } ≡ runHost s j buffer
+  unfolding judgedOf runHost intoBuffer
+  run-refused buffer n = rw (left-refused bookBefore s j answerText r e n)
 
--- a sheet that is read
-pub run-ran : (s j buffer : List ℕ) (k : Book) → read s ≡ accepted k → ranOn k (journal j) buffer ≡ runHost s j buffer
-unfolding runHost
-run-ran s j buffer k e = rw e
+  pub refused-left : (r .refusal ≡ 0 → ⊥) → r ≡ leftOf s j
+  unfolding judgedOf leftOf
+  refused-left n = from (read s) (journal j) e
+    where
+      from : (o : Reading) (l : Journal) → r ≡ leftAs bookBefore o l → r ≡ leftAs bookAfter o l
+      from (accepted k) (calls cs) q = absurd (n (ap (λ (x : Left). x .refusal) q))
+      from (accepted k) (faulty i) q = q
+      from (refusedAt g i) l q = q
+
+  -- none: the sheet is that of the file's book
+  went : r .refusal ≡ 0 → Went bookBefore s j r
+  unfolding judgedOf
+  went z = left-went bookBefore s j r e z
+
+  pub went-sound : r .refusal ≡ 0 → Sound (r .sheet) × Spells j
+  went-sound z = let w = went z in (rw (w .sheet) (sheet-sound (w .book) (read-sound s (w .book) (w .file))), w .calls)
+
+  went-book : (w : Went bookBefore s j r) → bookOf (r .sheet) ≡ w .book
+  went-book w = ap bookOf (w .sheet) ∙ book-sheet (w .book) (read-sound s (w .book) (w .file))
+
+  pub run-went : (buffer : List ℕ) → r .refusal ≡ 0 → intoBuffer (text (textOf (bookOf (r .sheet)) (journal j))) buffer ≡ runHost s j buffer
+  unfolding runHost textOf
+  run-went buffer z = let w = went z in rw (went-book w, w .file, w .calls .same)
+
+  pub went-left : r .refusal ≡ 0 → (t : Sheet) → t ≡ sheetOf (bookLeft (bookOf (r .sheet)) (journal j))
+      → record { refusal = 0; line = 0; sheet = t } ≡ leftOf s j
+  unfolding leftOf bookLeft
+  went-left z t q = let w = went z in rw (q, went-book w, w .file, w .calls .same)
 
 -- ---- a sheet that is read as k, and a journal that spells cs
 
--- The buffer gets the answers of cs, each on the book that the calls before it leave, or the answer is 9; and all that is claimed of
--- reviews, trials and planning holds before each call and after the last.
+-- The buffer gets the answers of cs, each on the book that the calls before it leave, or the sheet as they leave it, or the answer is 9;
+-- and all that is claimed of reviews, trials, planning and the file written holds before each call and after the last.
 pub record Through (s j buffer : List ℕ) (k : Book) (cs : List Call) : Type 0 where
-  pub said : runHost s j buffer
-      ≡ intoBuffer (leb (length (answerLines (answers k cs))) (length buffer)) (answerLines (answers k cs)) buffer
+  pub said : runHost s j buffer ≡ intoBuffer (text (answerText k cs)) buffer
+  pub left : writeHost s j buffer ≡ intoBuffer (text (sheetText k cs)) buffer
   pub claims : Throughout k cs
 
-run-said : (s j buffer : List ℕ) (k : Book) (cs : List Call) → read s ≡ accepted k → journal j ≡ calls cs → runHost s j buffer
-    ≡ intoBuffer (leb (length (answerLines (answers k cs))) (length buffer)) (answerLines (answers k cs)) buffer
-unfolding runHost
-run-said s j buffer k cs e f = rw (e, f)
+run-said : (s j buffer : List ℕ) (k : Book) (cs : List Call) → read s ≡ accepted k → journal j ≡ calls cs
+    → (runHost s j buffer ≡ intoBuffer (text (answerText k cs)) buffer)
+    × (writeHost s j buffer ≡ intoBuffer (text (sheetText k cs)) buffer)
+unfolding runHost writeHost
+run-said s j buffer k cs e f = (rw (e, f), rw (e, f))
 
 pub run-through : (s j buffer : List ℕ) (k : Book) (cs : List Call) → read s ≡ accepted k → journal j ≡ calls cs → Through s j buffer k cs
-run-through s j buffer k cs e f = record { said = run-said s j buffer k cs e f; claims = run-claims s k e cs }
+run-through s j buffer k cs e f =
+    let d = run-said s j buffer k cs e f in
+    record { said = d .0; left = d .1; claims = run-claims s k e cs }

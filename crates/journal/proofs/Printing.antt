@@ -1,7 +1,6 @@
 -- What the program prints, from what the host gets.
 use Prim.Native.Nat.{ℕ, _+_, _≤_, _<_}
 use mathlib.Core.Path.{_≡_, refl, ap, _∙_}
-use mathlib.Core.Bool.{Bool, true, false}
 use mathlib.Core.List.{List, [], _∷_, _++_}
 use native.Mathlib.Omega.{arith}
 use lib.Dec.{leb}
@@ -9,17 +8,18 @@ use lib.ListN.{length, take, drop}
 use lib.Seq.{take-at}
 use borrow.Author.Tests.{leb-true, eq-eqb, ne-eqb}
 use Rattle.rules.specs.Refusal.{bufferShort}
-use Rattle.rules.specs.Sheet.{Book}
 use Rattle.rules.specs.Read.{Reading, accepted, refusedAt, read}
 use Rattle.rules.specs.Render.{line}
-use Rattle.rules.specs.Run.{answers}
-use Rattle.rules.specs.Journal.{Journal, journal, answerLines, ranOn, ranFrom, runHost}
-use Rattle.rules.specs.Listing.{Hosted, intoBuffer}
+use Rattle.rules.specs.Sheet.{Book}
+use Rattle.rules.specs.Run.{Call}
+use Rattle.rules.specs.Lent.{text, Hosted, intoBuffer}
+use Rattle.rules.specs.Journal.{Journal, runDue, answerText, runHost}
+use Rattle.theory.proofs.Logic.{byTest}
 use Rattle.sheet.proofs.Accepted.{refused-line}
 use Rattle.sheet.proofs.Bytes.{read-bounded}
-use Rattle.listing.proofs.Fields.{line-length}
-use Rattle.listing.specs.declared.host.Hosted as C
-use Rattle.listing.specs.Host.{hostedOf}
+use Rattle.theory.proofs.Fields.{line-length}
+use Rattle.text.specs.declared.Hosted as C
+use Rattle.text.specs.Answer.{hostedOf}
 use Rattle.journal.specs.Running.{printedOf}
 use Rattle.journal.proofs.Fitting.{refusal-small}
 use Rattle.journal.proofs.Hosting.{Numbered, formed, fault, journal-numbered}
@@ -31,22 +31,25 @@ pub record Modest (room : ℕ) (h : Hosted) : Type 0 where
   pub place : h .line < 1000000
   pub few : h .length ≤ room
 
-into-modest : (text buffer : List ℕ) (t : Bool) → leb (length text) (length buffer) ≡ t → Modest (length buffer) (intoBuffer t text buffer)
-into-modest text buffer true e = record { number = omega arith; place = omega arith; few = leb-true _ _ e }
-into-modest text buffer false e = record { number = refusal-small bufferShort; place = omega arith; few = omega arith }
+into-modest : (t buffer : List ℕ) → Modest (length buffer) (intoBuffer (text t) buffer)
+unfolding intoBuffer
+into-modest t buffer =
+    byTest (leb (length t) (length buffer))
+    (λ e. rw e (record { number = omega arith; place = omega arith; few = leb-true _ _ e }))
+    (λ e. rw e (record { number = refusal-small bufferShort; place = omega arith; few = omega arith }))
 
 module _ (s j buffer : List ℕ) (short : length j < 999999) where
-  on-modest : (k : Book) {l : Journal} → Numbered (length j + 1) l → Modest (length buffer) (ranOn k l buffer)
-  on-modest k (formed cs) = into-modest (answerLines (answers k cs)) buffer (leb (length (answerLines (answers k cs))) (length buffer)) refl
-  on-modest k (fault i h n) = record { number = omega arith; place = omega arith; few = omega arith }
-
-  from-modest : (o : Reading) → read s ≡ o → Modest (length buffer) (ranFrom o (journal j) buffer)
-  from-modest (accepted k) e = on-modest k (journal-numbered j)
-  from-modest (refusedAt g i) e = record { number = refusal-small g; place = omega (arith, refused-line s g i e); few = omega arith }
+  -- whatever text is due
+  pub due-modest : (f : Book → List Call → List ℕ) (o : Reading) → read s ≡ o → {l : Journal} → Numbered (length j + 1) l
+      → Modest (length buffer) (intoBuffer (runDue f o l) buffer)
+  unfolding intoBuffer
+  due-modest f (accepted k) e (formed cs) = into-modest (f k cs) buffer
+  due-modest f (accepted k) e (fault i h n) = record { number = omega arith; place = omega arith; few = omega arith }
+  due-modest f (refusedAt g i) e p = record { number = refusal-small g; place = omega (arith, refused-line s g i e); few = omega arith }
 
   run-modest : Modest (length buffer) (runHost s j buffer)
   unfolding runHost
-  run-modest = from-modest (read s) refl
+  run-modest = due-modest answerText (read s) refl (journal-numbered j)
 
   -- ---- as the code has it
 

@@ -32,7 +32,7 @@ use Rattle.sheet.proofs.Answered.{edit-answered}
 use Rattle.planner.specs.Calls.{Reply, replyNumbers, reviewOf, trialOf, planOf, trialAnswer, triedAs, ReviewAnswered, TrialAnswered, PlanAnswered}
 use Rattle.planner.specs.Runs.{Link, editing, reviewing, trying, planning}
 use Rattle.planner.proofs.Runs.{link-answer, link-next}
-use Rattle.listing.proofs.Figures.{group-few, plan-fits}
+use Rattle.planner.proofs.Figures.{group-few, plan-fits}
 use Rattle.journal.specs.Answering.{madeWith, madeOf, isPlan, reviewNumbers, trialNumbers, plannedNumbers}
 
 -- ---- only planning answers a plan

@@ -6,8 +6,8 @@ ghost use lib.ListN.{length};
 ghost use lib.Seq.{paste};
 ghost use Rattle.rules.specs.Render.{fields, line};
 ghost use Rattle.journal.specs.Answering.{lineOf, lineLength, SixColumns, Fitting};
-use listing::text::put_columns;
-use listing::text::put_end;
+use text::put_columns;
+use text::put_end;
 
 // How many bytes the line of size numbers has.
 pub fn line_length(plan: bool, size: usize) -> usize

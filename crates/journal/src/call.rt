@@ -9,7 +9,6 @@ ghost use Rattle.sheet.specs.Represent.{Sound, bookOf};
 ghost use Rattle.sheet.specs.Answers.{numberOf, editOf};
 ghost use Rattle.journal.specs.Answering.{editSaid, callSaid, madeWith, madeOf, reviewNumbers, trialNumbers, plannedNumbers};
 use crate::entry::Entry;
-use listing::host::code;
 use planner::Planned;
 use planner::Reviewed;
 use planner::Tried;
@@ -18,6 +17,7 @@ use planner::calls::review;
 use planner::calls::trial;
 use sheet::Edited;
 use sheet::Sheet;
+use sheet::code;
 
 // The sheet after a call, and the answer: its numbers, how many they are, and whether they are a plan's. Entries past the last
 // number are 0.

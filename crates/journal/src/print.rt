@@ -5,7 +5,7 @@ ghost use lib.ListN.{length, take};
 ghost use Rattle.rules.specs.Journal.{runHost};
 ghost use Rattle.journal.specs.Running.{printedOf};
 use crate::run::run_into;
-use listing::text::put_refusal;
+use text::put_pair;
 
 // Makes the calls of a journal on a sheet, and writes their answers at the front of `out`, or one line with the refusal's number and
 // line. Returns how many bytes it wrote.
@@ -21,6 +21,6 @@ pub fn print(sheet: &[u8], journal: &[u8], out: &mut [u8]) -> usize
         return r.length;
     }
     let line = r.line as u32;
-    put_refusal(out, number, line);
+    put_pair(out, number, line);
     13
 }

@@ -1,27 +1,15 @@
 -- Laws of a loop's next turn: one more number in a row, one more line.
-use Prim.Native.Nat.{ℕ, _+_, _*_, _≤_, _<_}
+use Prim.Native.Nat.{ℕ, _+_, _*_, _≤_}
 use mathlib.Core.Path.{_≡_, sym, ap, _∙_}
 use mathlib.Core.List.{List, [], _∷_, _++_}
 use native.Mathlib.Numerals.{add-one}
 use native.Mathlib.Omega.{arith}
-use lib.ListN.{length, take, getD}
-use lib.Seq.{paste, take-suc}
-use Rattle.rules.specs.Render.{columns, fields, line}
-use Rattle.listing.specs.Text.{rowsTo}
-use Rattle.listing.proofs.Pasted.{Wrote, wrote-more, wrote-as}
-use Rattle.listing.proofs.Fields.{field-length, fields-snoc, line-length}
-
--- the next of a list's numbers
-pub numbers-more : {d e f : List ℕ} {p : ℕ} (group : List ℕ) (i q x : ℕ) → Wrote d p (fields (take i group)) (6 * i) e
-    → q ≡ p + 6 * i → x ≡ getD group i 0 → i < length group → p + 6 * (i + 1) ≤ length d → f ≡ paste e q (columns 6 x) 6
-    → Wrote d p (fields (take (i + 1) group)) (6 * (i + 1)) f
-numbers-more group i q x w a b h r g =
-    wrote-as
-    (wrote-more (columns 6 x) q 6 (6 * (i + 1)) w a (omega arith) (field-length x) (omega arith) g)
-    (ap (λ (y : ℕ). fields (take i group) ++ columns 6 y) b
-    ∙ sym (fields-snoc (take i group) (getD group i 0))
-    ∙ ap fields (sym (take-suc group i 0 h))
-    ∙ ap (λ (k : ℕ). fields (take k group)) (sym (add-one i)))
+use lib.ListN.{length, getD}
+use lib.Seq.{paste}
+use Rattle.rules.specs.Render.{line}
+use Rattle.listing.specs.Rows.{rowsTo}
+use Rattle.text.proofs.Pasted.{Wrote, wrote-more, wrote-as}
+use Rattle.theory.proofs.Fields.{line-length}
 
 rows-snoc : (minutes places : List ℕ) (b : ℕ)
     → rowsTo minutes places b ++ line ((b + 1) ∷ getD places b 0 ∷ getD minutes b 0 ∷ []) ≡ rowsTo minutes places (b + 1)

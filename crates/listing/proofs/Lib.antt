@@ -1,9 +1,5 @@
-pub mod Pasted
-pub mod Columns
-pub mod Fields
 pub mod Lines
 pub mod Growing
-pub mod Figures
 pub mod Planned
 pub mod Hosting
 pub mod Printing

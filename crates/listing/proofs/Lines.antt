@@ -1,18 +1,17 @@
 -- Laws of the listing's lines: how long they are, and what they are to a book and its plan.
 use Prim.Native.Nat.{ℕ, zero, suc, _+_, _*_, _≤_}
-use mathlib.Core.Path.{_≡_, refl, ap₂, _∙_}
+use mathlib.Core.Path.{_≡_, refl, ap, ap₂, _∙_}
 use mathlib.Core.List.{List, [], _∷_, _++_}
 use native.Mathlib.Omega.{arith}
-use lib.ListN.{length, take, length-append}
-use lib.Seq.{length-take-le}
+use lib.ListN.{length, length-append}
 use Rattle.rules.specs.Fold.{at}
 use Rattle.rules.specs.Sheet.{Book, size, batch}
 use Rattle.rules.specs.Render.{columns, fields, line}
 use Rattle.rules.specs.Plan.{Plan}
 use Rattle.rules.specs.Listing.{firstLine, groupLine, batchListing, listing}
 use Rattle.theory.proofs.Field.{columns-length}
-use Rattle.listing.specs.Text.{figures, rowsTo, listingText}
-use Rattle.listing.proofs.Fields.{fields-length, line-length}
+use Rattle.listing.specs.Rows.{figures, rowsTo, listingText}
+use Rattle.theory.proofs.Fields.{fields-length, line-length}
 
 pub first-line-length : (p : Plan) → length (firstLine p) ≡ 43
 first-line-length p =
@@ -70,29 +69,25 @@ rows-of k p minutes places (suc b) h =
     (rows-of k p minutes places b (λ i l u. h i l (omega arith)))
     (ap₂ (λ (x y : ℕ). line (suc b ∷ x ∷ y ∷ [])) (e .0) (e .1))
 
--- and the whole listing, with the group in the front of a list
-pub listing-of : (k : Book) (p : Plan) (group minutes places : List ℕ)
-    → take (length (p .group)) group ≡ p .group
+-- and the whole listing
+pub listing-of : (k : Book) (p : Plan) (minutes places : List ℕ)
     → ((b : ℕ) → 1 ≤ b → b ≤ size k → (at places b ≡ at (p .assignment) b) × (at minutes b ≡ batch k b .minutes))
-    → listingText
-    (figures (p .makespan) (p .lowerBound) (p .level) (p .lifts) (p .pushes) (p .moves))
-    (length (p .group)) group (size k) minutes places
+    → listingText (figures (p .makespan) (p .lowerBound) (p .level) (p .lifts) (p .pushes) (p .moves)) (p .group) (size k) minutes places
     ≡ listing k p
 unfolding listingText listing
-listing-of k p group minutes places g h =
-    ap₂ (λ (s r : List ℕ). firstLine p ++ line (length (p .group) ∷ s) ++ r) g (rows-of k p minutes places (size k) h)
+listing-of k p minutes places h =
+    ap (λ (r : List ℕ). firstLine p ++ groupLine p ++ r) (rows-of k p minutes places (size k) h)
 
-pub listing-text-length : (p : Plan) (m : ℕ) (group : List ℕ) (n : ℕ) (minutes places : List ℕ) → m ≤ length group
-    → length (listingText p m group n minutes places) ≡ 43 + (6 * (m + 1) + 1) + 19 * n
+pub listing-text-length : (p : Plan) (group : List ℕ) (n : ℕ) (minutes places : List ℕ)
+    → length (listingText p group n minutes places) ≡ 43 + (6 * (length group + 1) + 1) + 19 * n
 unfolding listingText
-listing-text-length p m group n minutes places h =
-    let g : List ℕ = line (m ∷ take m group) in
+listing-text-length p group n minutes places =
+    let g : List ℕ = line (length group ∷ group) in
     length-append (firstLine p ++ g) (rowsTo minutes places n)
     ∙ omega (
       arith,
       length-append (firstLine p) g,
       first-line-length p,
-      line-length (m ∷ take m group),
-      length-take-le m group h,
+      line-length (length group ∷ group),
       rows-length minutes places n,
     )

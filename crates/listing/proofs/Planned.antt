@@ -1,9 +1,9 @@
 -- The planner's answer and the sheet's arrays, as the listing shows them.
 use Prim.Native.Nat.{ℕ, zero, suc, _+_, _-_, _*_, _≤_}
-use mathlib.Core.Path.{_≡_, refl, ap, _∙_}
+use mathlib.Core.Path.{_≡_, refl, sym, ap, _∙_}
 use mathlib.Core.List.{List, map}
 use native.Mathlib.Omega.{arith}
-use lib.ListN.{length, List·getD-map}
+use lib.ListN.{length, take, List·getD-map}
 use lib.Seq.{take-at}
 use Rattle.rules.specs.Fold.{at}
 use Rattle.rules.specs.Sheet.{Book, size, batch, noBatchHere}
@@ -18,12 +18,13 @@ use Rattle.theory.proofs.Planning.{plan-permitted}
 use Rattle.sheet.specs.declared.Sheet.{Sheet}
 use Rattle.sheet.specs.Represent.{padded, sheetOf, bookOf, Sound}
 use Rattle.theory.proofs.Entries.{getD-zeros}
+use Rattle.sheet.proofs.Padded.{length-padded}
 use Rattle.sheet.proofs.SoundViews.{minutes-at, view-batches, view-valid, view-permitted, view-placed, view-placed-book}
 use Rattle.planner.specs.declared.Planned.{Planned}
 use Rattle.planner.specs.Calls.{planOf}
-use Rattle.listing.specs.Text.{figures, listingText}
+use Rattle.listing.specs.Rows.{figures, listingText}
 use Rattle.listing.proofs.Lines.{listing-of, listing-length}
-use Rattle.listing.proofs.Figures.{SmallFigures, plan-fits}
+use Rattle.planner.proofs.Figures.{SmallFigures, plan-fits}
 
 -- ---- arrays that are longer than what they hold
 
@@ -37,12 +38,10 @@ minutes-of k (suc b) = ap (λ (j : Job). j .minutes) (List·getD-map jobOf (k .b
 
 -- the listing from arrays
 text-of : (k : Book) (p : Plan)
-    → listingText (figures (p .makespan) (p .lowerBound) (p .level) (p .lifts) (p .pushes) (p .moves)) (length (p .group))
-    (padded 24 (p .group)) (size k) (padded 200 (map (λ (j : Job). j .minutes) (instance k .jobs))) (padded 200 (p .assignment))
+    → listingText (figures (p .makespan) (p .lowerBound) (p .level) (p .lifts) (p .pushes) (p .moves)) (p .group) (size k) (padded 200 (map (λ (j : Job). j .minutes) (instance k .jobs))) (padded 200 (p .assignment))
     ≡ listing k p
 text-of k p =
-    listing-of k p (padded 24 (p .group)) _ _ (take-at (p .group) _ (length (p .group)) refl)
-    (λ b l u. (at-padded 200 (p .assignment) b, minutes-at (instance k) b ∙ minutes-of k b))
+    listing-of k p _ _ (λ b l u. (at-padded 200 (p .assignment) b, minutes-at (instance k) b ∙ minutes-of k b))
 
 -- ---- a sound sheet, planned
 
@@ -60,6 +59,21 @@ module _ (s : Sheet) (v : Sound s) where
   unfolding planOf
   sound-as r e = rw e (view-placed s v _ new-permitted)
 
+  -- the group at the front of its array
+  group-as : (r : Planned) → r ≡ planOf (bookOf s) → take (r .size) (r .group) ≡ planBook (bookOf s) .group
+  unfolding planOf
+  group-as r e = rw e (take-at (planBook (bookOf s) .group) _ _ refl)
+
+  long-as : (r : Planned) → r ≡ planOf (bookOf s) → length (take (r .size) (r .group)) ≡ r .size
+  unfolding planOf
+  long-as r e = ap length (group-as r e) ∙ ap (λ (q : Planned). q .size) (sym e)
+
+  whole-as : (r : Planned) → r ≡ planOf (bookOf s) → r .size ≤ length (r .group)
+  unfolding planOf
+  whole-as r e =
+      let f = plan-fits s v .few in
+      rw e (omega (arith, f, length-padded 24 (planBook (bookOf s) .group) f))
+
   -- what the planner answers, with the arrays of the sheet and of the new sheet
   pub record ListedPlan (r : Planned) (c : ℕ) : Type 0 where
     pub count : c ≡ size (bookOf s)
@@ -71,7 +85,9 @@ module _ (s : Sheet) (v : Sound s) where
     pub pushes : r .pushes ≡ planBook (bookOf s) .pushes
     pub moves : r .moves ≡ planBook (bookOf s) .moves
     pub size : r .size ≡ length (planBook (bookOf s) .group)
-    pub group : r .group ≡ padded 24 (planBook (bookOf s) .group)
+    pub group : take (r .size) (r .group) ≡ planBook (bookOf s) .group
+    pub long : length (take (r .size) (r .group)) ≡ r .size
+    pub whole : r .size ≤ length (r .group)
     pub sheet : r .sheet ≡ sheetOf (withPlaces (bookOf s) (planBook (bookOf s) .assignment))
     pub sound : Sound (r .sheet)
     pub inColumns : SmallFigures (planBook (bookOf s))
@@ -88,7 +104,9 @@ module _ (s : Sheet) (v : Sound s) where
     pushes = ap (λ (q : Planned). q .pushes) e;
     moves = ap (λ (q : Planned). q .moves) e;
     size = ap (λ (q : Planned). q .size) e;
-    group = ap (λ (q : Planned). q .group) e;
+    group = group-as r e;
+    long = long-as r e;
+    whole = whole-as r e;
     sheet = ap (λ (q : Planned). q .sheet) e;
     sound = sound-as r e;
     inColumns = plan-fits s v;
@@ -103,9 +121,9 @@ module _ (s : Sheet) (v : Sound s) where
   pub listed-text : (r : Planned) (c : ℕ) (minutes places : List ℕ) → ListedPlan r c
       → minutes ≡ padded 200 (map (λ (j : Job). j .minutes) (instance (bookOf s) .jobs))
       → places ≡ padded 200 (In.places (bookOf (r .sheet)))
-      → listingText (figures (r .makespan) (r .bound) (r .level) (r .lifts) (r .pushes) (r .moves)) (r .size) (r .group) c minutes places
+      → listingText (figures (r .makespan) (r .bound) (r .level) (r .lifts) (r .pushes) (r .moves)) (take (r .size) (r .group)) c minutes places
       ≡ listing (bookOf s) (planBook (bookOf s))
   listed-text r c minutes places a g h =
       let q : places ≡ padded 200 (planBook (bookOf s) .assignment) =
       h ∙ ap (λ (t : Sheet). padded 200 (In.places (bookOf t))) (a .sheet) ∙ ap (padded 200) new-places in
-      rw (a .makespan, a .bound, a .level, a .lifts, a .pushes, a .moves, a .size, a .group, a .count, g, q) (text-of (bookOf s) (planBook (bookOf s)))
+      rw (a .makespan, a .bound, a .level, a .lifts, a .pushes, a .moves, a .group, a .count, g, q) (text-of (bookOf s) (planBook (bookOf s)))

@@ -6,22 +6,23 @@ use mathlib.Core.List.{List, [], _∷_, _++_}
 use native.Mathlib.Omega.{arith}
 use lib.ListN.{length, take, drop}
 use borrow.Author.Tests.{le-leb}
-use Rattle.rules.specs.Refusal.{Refusal, malformed, badSize, badLength, badList, badPlace, noBatch, sheetFull, levelAbove, bufferShort, number}
+use Rattle.rules.specs.Refusal.{Refusal, number}
 use Rattle.rules.specs.Sheet.{Book, sound}
 use Rattle.rules.specs.Render.{line}
 use Rattle.rules.specs.Read.{Reading, accepted, refusedAt, read}
 use Rattle.rules.specs.Run.{planBook}
-use Rattle.rules.specs.Listing.{listing, printed, program, host}
-use Rattle.rules.specs.Listing as L
+use Rattle.rules.specs.Lent.{atFront, printed, intoBuffer}
+use Rattle.rules.specs.Lent as L
+use Rattle.rules.specs.Listing.{listing, listingDue, program, host}
+use Rattle.theory.proofs.Refusal.{number-range}
 use Rattle.theory.proofs.Sound.{sound-is, read-sound}
 use Rattle.sheet.specs.Represent.{sheetOf}
 use Rattle.sheet.proofs.Represent.{book-sheet, sheet-sound}
-use Rattle.listing.specs.declared.host.Hosted.{Hosted}
-use Rattle.listing.specs.Text.{atFront}
-use Rattle.listing.specs.Host.{hostedOf}
-use Rattle.listing.proofs.Fields.{line-length}
+use Rattle.text.specs.declared.Hosted.{Hosted}
+use Rattle.text.specs.Answer.{hostedOf}
+use Rattle.theory.proofs.Fields.{line-length}
 use Rattle.listing.proofs.Lines.{listing-length}
-use Rattle.listing.proofs.Figures.{SmallFigures, plan-fits}
+use Rattle.planner.proofs.Figures.{SmallFigures, plan-fits}
 use Rattle.sheet.proofs.Bytes.{read-bounded}
 use Rattle.sheet.proofs.Accepted.{refused-line}
 
@@ -30,17 +31,6 @@ pub longest-listing : (k : Book) → sound k ≡ true → length (listing k (pla
 longest-listing k v =
     let f : SmallFigures (planBook k) = rw (book-sheet k v) at (plan-fits (sheetOf k) (sheet-sound k v)) in
     omega (arith, listing-length k (planBook k), f .few, sound-is k v .room)
-
-number-range : (g : Refusal) → (1 ≤ number g) × (number g ≤ 9)
-number-range malformed = (omega arith, omega arith)
-number-range badSize = (omega arith, omega arith)
-number-range badLength = (omega arith, omega arith)
-number-range badList = (omega arith, omega arith)
-number-range badPlace = (omega arith, omega arith)
-number-range noBatch = (omega arith, omega arith)
-number-range sheetFull = (omega arith, omega arith)
-number-range levelAbove = (omega arith, omega arith)
-number-range bufferShort = (omega arith, omega arith)
 
 -- the listing is in the buffer
 pub record ListingIn (s buffer : List ℕ) (h : Hosted) (after : List ℕ) : Type 0 where
@@ -58,7 +48,7 @@ module _ (s buffer after : List ℕ) (h : Hosted) (e : hostedOf h after ≡ host
   -- the answer to a sheet that is read
   told : (k : Book) → read s ≡ accepted k
       → hostedOf h after ≡ record { refusal = 0; line = 0; length = length (program s); buffer = atFront (program s) buffer }
-  unfolding host program
+  unfolding host program intoBuffer
   told k q =
       let l = longest-listing k (read-sound s k q) in
       let t : length (listing k (planBook k)) ≤ length buffer = omega arith in
@@ -67,7 +57,7 @@ module _ (s buffer after : List ℕ) (h : Hosted) (e : hostedOf h after ≡ host
   -- and to one that is refused
   turned : (g : Refusal) (j : ℕ) → read s ≡ refusedAt g j
       → hostedOf h after ≡ record { refusal = number g; line = j; length = 0; buffer = buffer }
-  unfolding host
+  unfolding host intoBuffer
   turned g j q = e ∙ rw q
 
   row-of : (g : Refusal) (j : ℕ) → read s ≡ refusedAt g j → program s ≡ line (number g ∷ j ∷ [])
@@ -108,7 +98,7 @@ row-printed s buffer after h end u e =
     (sym w, e ∙ rw (w, u .row, u .same) refl)
 
 -- the text is never longer than the longest listing
-short-case : (s : List ℕ) (o : Reading) → read s ≡ o → length (printed o) ≤ 3994
+short-case : (s : List ℕ) (o : Reading) → read s ≡ o → length (printed (listingDue o)) ≤ 3994
 short-case s (accepted k) q = longest-listing k (read-sound s k q)
 short-case s (refusedAt g j) q = omega (arith, line-length (number g ∷ j ∷ []))
 

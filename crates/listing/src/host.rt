@@ -2,42 +2,17 @@
 ghost use mathlib.Core.Path.{_≡_};
 ghost use Rattle.rules.specs.Listing.{host};
 ghost use Rattle.sheet.specs.Represent.{Sound, bookOf};
-ghost use Rattle.sheet.specs.Answers.{numberOf};
-ghost use Rattle.listing.specs.Host.{hostedOf, listedInto};
-use crate::text::Figures;
-use crate::text::listing_length;
-use crate::text::put_listing;
+ghost use Rattle.text.specs.Answer.{hostedOf};
+ghost use Rattle.listing.specs.Host.{listedInto};
+use crate::rows::Figures;
+use crate::rows::listing_length;
+use crate::rows::put_listing;
 use planner::calls::plan;
 use sheet::Refusal;
 use sheet::Sheet;
+use sheet::code;
 use sheet::read::read;
-
-// What a call from outside answers: the refusal's number, 0 for none, and its line, 0 for none and for 9; and how many bytes the text
-// has, 0 on a refusal.
-#[repr(C)]
-pub struct Hosted {
-    pub refusal: u32,
-    pub line: usize,
-    pub length: usize,
-}
-
-// A refusal's number in document 01; 0 for none.
-pub fn code(refusal: Refusal) -> u32
-    ensures { λ r. ⌜ r ≡ numberOf refusal ⌝ }
-{
-    match refusal {
-        Refusal::Nothing => 0,
-        Refusal::Malformed => 1,
-        Refusal::BadSize => 2,
-        Refusal::BadLength => 3,
-        Refusal::BadList => 4,
-        Refusal::BadPlace => 5,
-        Refusal::NoBatch => 6,
-        Refusal::SheetFull => 7,
-        Refusal::LevelAbove => 8,
-        Refusal::BufferShort => 9,
-    }
-}
+use text::Hosted;
 
 // Plans a sheet, and writes its listing at the front of `out` where that is long enough.
 fn list_into(sheet: Sheet, out: &mut [u8]) -> Hosted
@@ -66,7 +41,7 @@ fn list_into(sheet: Sheet, out: &mut [u8]) -> Hosted
         pushes: p.pushes,
         moves: p.moves,
     };
-    let length = put_listing(out, f, size, group, n, &minutes, &places);
+    let length = put_listing(out, f, &group[..size], n, &minutes, &places);
     Hosted {
         refusal: 0,
         line: 0,

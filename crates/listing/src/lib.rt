@@ -1,4 +1,4 @@
 // The listing: its text in a lent buffer, from a sheet's bytes, and what the program prints.
 pub mod host;
 pub mod print;
-pub mod text;
+mod rows;

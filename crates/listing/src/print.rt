@@ -2,10 +2,10 @@
 ghost use mathlib.Core.Path.{_≡_};
 ghost use Prim.Native.Nat.{_≤_};
 ghost use lib.ListN.{length};
+ghost use Rattle.rules.specs.Lent.{atFront};
 ghost use Rattle.rules.specs.Listing.{program};
-ghost use Rattle.listing.specs.Text.{atFront};
 use crate::host::plan_into;
-use crate::text::put_refusal;
+use text::put_pair;
 
 // Plans a sheet of any bytes and writes its listing at the front of `out`, or one line with the refusal's number and line. The
 // longest listing has 3,994 bytes. Returns how many bytes it wrote.
@@ -20,6 +20,6 @@ pub fn print(sheet: &[u8], out: &mut [u8]) -> usize
     if number == 0 {
         return h.length;
     }
-    put_refusal(out, number, h.line as u32);
+    put_pair(out, number, h.line as u32);
     13
 }

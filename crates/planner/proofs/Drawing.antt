@@ -23,10 +23,10 @@ use Rattle.sheet.proofs.SoundViews.{view-valid, view-permitted, view-placed}
 use Rattle.arrays.specs.Sets.{has}
 use Rattle.arrays.specs.Reads.{Reads}
 use Rattle.trials.specs.Attempt.{Standing}
-use Rattle.trials.specs.Grouping.{HoldsList}
+use Rattle.scans.specs.Grouping.{HoldsList}
 use Rattle.planner.specs.declared.balance.Search.{Search}
 use Rattle.planner.specs.declared.plan.Drawn.{Drawn}
-use Rattle.planner.specs.Settling.{Known, Placing, SettledTo}
+use Rattle.settling.specs.Settling.{Known, Placing, SettledTo}
 use Rattle.planner.specs.Search.{Sought}
 use Rattle.planner.specs.Drawing.{Draws}
 use Rattle.planner.specs.Calls.{planOf}

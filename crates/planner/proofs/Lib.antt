@@ -1,10 +1,8 @@
 pub mod Answered
 pub mod Drawing
-pub mod Placing
-pub mod Relocate
+pub mod Figures
 pub mod Reviewing
 pub mod Runs
 pub mod Seeking
-pub mod Settles
 pub mod TrialAnswers
 pub mod SheetArrays

@@ -10,7 +10,7 @@ use Rattle.rules.specs.Load.{load, makespan, improves, review}
 use Rattle.theory.proofs.Fold.{sumTo-ext, maxTo-ext}
 use Rattle.theory.proofs.Entries.{take-list}
 use Rattle.arrays.specs.Reads.{Reads}
-use Rattle.planner.specs.Settling.{Placing, ReviewIs}
+use Rattle.settling.specs.Settling.{Placing, ReviewIs}
 use Rattle.arrays.proofs.Take.{at-take}
 
 module _ {I : Instance} {m c : ℕ} {lengths sets : List ℕ} (r : Reads I m c lengths sets) where

@@ -25,7 +25,7 @@ use Rattle.arrays.specs.Reads.{Reads}
 use Rattle.planner.specs.declared.Reviewed.{Reviewed}
 use Rattle.planner.specs.declared.laid.Laid.{Laid}
 use Rattle.planner.specs.Laid.{Lays}
-use Rattle.planner.specs.Settling.{Placing, Known, ReviewIs}
+use Rattle.settling.specs.Settling.{Placing, Known, ReviewIs}
 use Rattle.planner.specs.Calls.{reviewOf}
 
 -- ---- a list in w entries

@@ -19,7 +19,7 @@ use Rattle.sheet.specs.Represent.{padded}
 use Rattle.arrays.specs.Sets.{has}
 use Rattle.arrays.specs.Reads.{Reads}
 use Rattle.trials.specs.Attempt.{Standing, Tries}
-use Rattle.trials.specs.Grouping.{HoldsList}
+use Rattle.scans.specs.Grouping.{HoldsList}
 use Rattle.arrays.proofs.Members.{members-group}
 use Rattle.planner.specs.Calls.{trialOf, refusedTrial, triedAs}
 use Rattle.planner.proofs.Reviewing.{added-loads}

@@ -4,7 +4,7 @@ use mathlib.Core.Path.{_≡_}
 use lib.ListN.{take}
 use Rattle.rules.specs.Instance.{Instance, Assignment}
 use Rattle.rules.specs.Plan.{plan}
-use Rattle.trials.specs.Grouping.{HoldsList}
+use Rattle.scans.specs.Grouping.{HoldsList}
 use Rattle.planner.specs.declared.plan.Drawn.{Drawn}
 
 -- what the rules' plan from x gives

@@ -1,4 +1,3 @@
-pub mod Settling
 pub mod Calls
 pub mod Laid
 pub mod Search

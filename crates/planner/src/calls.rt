@@ -7,15 +7,15 @@ ghost use Rattle.planner.specs.Calls.{ReviewAnswered, TrialAnswered, Pla
 use crate::Planned;
 use crate::Reviewed;
 use crate::Tried;
-use crate::improve::first_improving;
 use crate::laid::lay;
 use crate::plan::draw;
 use arrays::scan::largest_load;
+use scans::group::longest_of;
+use scans::group::members_of;
+use scans::group::total_of;
+use settling::improve::first_improving;
 use sheet::Refusal;
 use sheet::Sheet;
-use trials::group::longest_of;
-use trials::group::members_of;
-use trials::group::total_of;
 use trials::trial::try_level;
 
 // The first n places, and zeros after them.

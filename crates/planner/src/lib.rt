@@ -4,10 +4,8 @@ use sheet::Sheet;
 
 mod balance;
 pub mod calls;
-mod improve;
 mod laid;
 mod plan;
-mod settle;
 
 // What a review answers: the load of each machine, 0 past the last, the greatest, and the lowest job that would finish earlier
 // elsewhere, 0 where none would.

@@ -5,13 +5,13 @@ ghost use Rattle.rules.specs.Instance.{Instance};
 ghost use Rattle.trials.specs.Attempt.{Standing};
 ghost use Rattle.planner.specs.Drawing.{Draws};
 use crate::balance::balance;
-use crate::settle::settle;
 use arrays::JOBS;
 use arrays::MACHINES;
 use arrays::scan::largest_load;
-use trials::group::bound_of;
-use trials::group::longest_of;
-use trials::group::members_of;
+use scans::group::bound_of;
+use scans::group::longest_of;
+use scans::group::members_of;
+use settling::settle::settle;
 
 // A plan's numbers, its group as a list with its size, and its places.
 pub struct Drawn {

@@ -1,6 +1,6 @@
 -- Document 01, "Cases": P1 to P10 in one table, with one theorem over it. The rows from 11 on are more of document 01's cases
--- and ours: each tells a wrong rule from the right one. Rows 20 and 21 are C-11 and C-12
--- of document 02.
+-- and ours: each tells a wrong rule from the right one. Rows 20 to 22 are C-11 to C-13 of
+-- document 02.
 use Prim.Native.Nat.{ℕ}
 use Prim.Native.String.{String}
 use mathlib.Core.Path.{_≡_, refl}
@@ -12,7 +12,8 @@ use Rattle.rules.specs.Refusal.{malformed, badSize, badLength, badList, 
 use Rattle.rules.specs.Sheet.{Batch, isBatch, goodInstruments, goodMinutes, isInstrument, distinct, goodList, goodBatch, sound}
 use Rattle.rules.specs.Field.{Field, value, blank, fault, digits, loneZero, blanks, field}
 use Rattle.rules.specs.Read.{Reading, accepted, refusedAt, numberAt, placeAt, endOfLine, headLine, instrumentsAt, batchLine, batchLines, read}
-use Rattle.rules.specs.Render.{columns, fields, Given, numbered, leftBlank, Described, Description, renderBatches, render, batchWithinLimits, withinLimits, described}
+use Rattle.rules.specs.Render.{columns, fields, Given, numbered, leftBlank, Described, Description, renderBatches, render, batchWithinLimits, withinLimits}
+use Rattle.rules.specs.Rewrite.{written, openInBatches, openColumns, alike}
 use Rattle.rules.specs.Edit.{add, withdraw, requalify, move, kept, edit}
 use Rattle.rules.specs.Instance.{Assignment, instance}
 use Rattle.rules.specs.Load.{load, makespan, longest, total, permitted, elsewhere, improvesAt, improves, review}
@@ -23,9 +24,10 @@ use Rattle.rules.specs.Balance.{searchBy, balance}
 use Rattle.rules.specs.LowerBound.{within, confined, share, lowerBound}
 use Rattle.rules.specs.Round.{multiples, equalLengths, closeTo}
 use Rattle.rules.specs.Plan.{plan}
-use Rattle.rules.specs.Run.{Call, editing, reviewing, trying, planning, Answer, refused, done, reviewed, tried, planned, planBook, answer, next, answers}
-use Rattle.rules.specs.Listing.{batchListing, listing, program, Hosted, host}
-use Rattle.rules.specs.Journal.{numbersAt, listAt, addAt, withdrawAt, requalifyAt, moveAt, trialAt, callAt, callLine, linesBy, journal, answerLines, runHost}
+use Rattle.rules.specs.Run.{Call, editing, reviewing, trying, planning, Answer, refused, done, reviewed, tried, planned, planBook, answer, next, bookAfter, answers}
+use Rattle.rules.specs.Lent.{Hosted, intoBuffer}
+use Rattle.rules.specs.Listing.{batchListing, listing, program, host}
+use Rattle.rules.specs.Journal.{numbersAt, listAt, addAt, withdrawAt, requalifyAt, moveAt, trialAt, callAt, callLine, linesBy, journal, answerLines, runHost, writeHost}
 use Rattle.rules.specs.Text.{bytes, lines}
 
 -- ---- the sheets
@@ -155,8 +157,10 @@ data Ask : Type 0 where
   fieldOf : String → Ask
   -- a file
   reading : List ℕ → Ask
-  -- a file, written back with its places as numbers
+  -- a file, written back
   writing : List ℕ → Ask
+  -- whether a text is a description's file but for places left open
+  matching : Description → List ℕ → Ask
   -- the file of a description
   rendering : Description → Ask
   -- a file, through the program
@@ -165,6 +169,8 @@ data Ask : Type 0 where
   hosting : List ℕ → List ℕ → Ask
   -- a file, a journal and a buffer, through the host's call
   running : List ℕ → List ℕ → List ℕ → Ask
+  -- the same, for the sheet as the journal leaves it
+  leaving : List ℕ → List ℕ → List ℕ → Ask
   -- calls in a row, on the sheet of a file
   calling : List ℕ → List Call → Ask
   -- a file planned, beside another plan of it, for a number g
@@ -182,7 +188,8 @@ record Comparison : Type 0 where
 data Said : Type 0 where
   fieldSaid : Field → Said
   readingSaid : Reading → Said
-  written : List ℕ → Said
+  fileSaid : List ℕ → Said
+  matched : Bool → Said
   printed : List ℕ → Said
   hosted : Hosted → Said
   answered : List Answer → Said
@@ -207,17 +214,19 @@ comparedOn (accepted k) g y =
 comparedOn (refusedAt e j) g y = noSheet
 
 abbrev writtenOf : Reading → Said
-writtenOf (accepted k) = written (render (described k))
+writtenOf (accepted k) = fileSaid (written k)
 writtenOf (refusedAt e j) = noSheet
 
 abbrev say : Ask → Said
 say (fieldOf s) = fieldSaid (field (bytes s))
 say (reading s) = readingSaid (read s)
 say (writing s) = writtenOf (read s)
-say (rendering d) = written (render d)
+say (matching d u) = matched (alike (openColumns d) (render d) u)
+say (rendering d) = fileSaid (render d)
 say (printing s) = printed (program s)
 say (hosting s b) = hosted (host s b)
 say (running s c b) = hosted (runHost s c b)
+say (leaving s c b) = hosted (writeHost s c b)
 say (calling s cs) = callsOn (read s) cs
 say (comparing s g y) = comparedOn (read s) g y
 
@@ -242,6 +251,21 @@ batchOf t l p = record { minutes = t; list = l; place = p }
 
 abbrev describedOf : ℕ → Given → List ℕ → Described
 describedOf t p l = record { minutes = t; list = l; place = p }
+
+-- the description of threeWays
+abbrev threeGiven : Description
+threeGiven = record {
+  m = 2;
+  batches =
+      describedOf 10 (numbered 1) (2 ∷ 1 ∷ [])
+      ∷ describedOf 20 (numbered 0) (2 ∷ 1 ∷ [])
+      ∷ describedOf 30 leftBlank (2 ∷ 1 ∷ [])
+      ∷ [];
+}
+
+-- a file like threeWays, but for the columns of its lines 2 and 3 given here
+abbrev likeThreeWays : String → String → List ℕ
+likeThreeWays a b = lines ("     2     3" ∷ a ∷ b ∷ "    30     2     2     2     1" ∷ [])
 
 table : List Row
 table =
@@ -276,7 +300,7 @@ table =
     ∷ row 11 (reading (lines ("     2     1" ∷ "    10     2     1     1" ∷ []))) (readingSaid (refusedAt badPlace 2))
     ∷ row 11 (reading (lines ("     2     1" ∷ "    10     0     2     2     1" ∷ [])))
     (readingSaid (accepted (record { m = 2; batches = batchOf 10 (2 ∷ 1 ∷ []) 2 ∷ [] })))
-    ∷ row 12 (writing p1) (written p1)
+    ∷ row 12 (writing p1) (fileSaid p1)
     -- more of trials and planning
     ∷ row 13 (calling alone (trying 0 ∷ trying 20 ∷ trying 30 ∷ trying 31 ∷ []))
     (answered
@@ -350,14 +374,7 @@ table =
       m = 2;
       batches = batchOf 10 (2 ∷ 1 ∷ []) 1 ∷ batchOf 20 (2 ∷ 1 ∷ []) 2 ∷ batchOf 30 (2 ∷ 1 ∷ []) 2 ∷ [];
     })))
-    ∷ row 20 (rendering (record {
-      m = 2;
-      batches =
-          describedOf 10 (numbered 1) (2 ∷ 1 ∷ [])
-          ∷ describedOf 20 (numbered 0) (2 ∷ 1 ∷ [])
-          ∷ describedOf 30 leftBlank (2 ∷ 1 ∷ [])
-          ∷ [];
-    })) (written threeWays)
+    ∷ row 20 (rendering threeGiven) (fileSaid threeWays)
     ∷ row 20 (reading (lines ("           0" ∷ []))) (readingSaid (refusedAt malformed 1))
     ∷ row 20 (reading (lines ("     2      " ∷ []))) (readingSaid (refusedAt malformed 1))
     ∷ row 20 (reading (lines ("     2     1" ∷ "           1     1     1" ∷ []))) (readingSaid (refusedAt malformed 2))
@@ -375,6 +392,31 @@ table =
     ∷ row 21 (comparing equals 6 (1 ∷ 1 ∷ 2 ∷ []))
     (compared (record { multiples = true; equal = true; permitted = true; finish = 12; other = 12; close = true }))
     ∷ row 21 (calling equals (planning ∷ [])) (answered (planSaid 12 9 6 2 2 0 (1 ∷ 2 ∷ []) (2 ∷ 1 ∷ 1 ∷ []) ∷ []))
+    -- a sheet written back: every place as it is, lists in their order; another file only where a place was left open
+    ∷ row 22 (writing threeWays) (fileSaid (likeThreeWays "    10     1     2     2     1" "    20     2     2     2     1"))
+    ∷ row 22 (matching threeGiven (likeThreeWays "    10     1     2     2     1" "    20     2     2     2     1")) (matched true)
+    ∷ row 22 (matching threeGiven (likeThreeWays "    10     2     2     2     1" "    20     2     2     2     1")) (matched false)
+    ∷ row 22 (matching threeGiven (likeThreeWays "    10     1     2     2     1" "    20     2     2     1     2")) (matched false)
+    ∷ row 22 (matching threeGiven (likeThreeWays "    10     1     2     2     1" "    20     2     2     2     1 ")) (matched false)
+    -- the sheet that a journal leaves, a refused call among its calls; an empty journal; a short buffer; bad files
+    ∷ row 22 (leaving p1 (lines ("     7" ∷ "     4     2     2" ∷ "     2     2" ∷ "     1    15     2     2     1" ∷ [])) (replicate 107 1))
+    (hosted (record {
+      refusal = 0;
+      line = 0;
+      length = 106;
+      buffer =
+          lines
+          ("     2     3"
+          ∷ "    30     2     2     1     2"
+          ∷ "    10     1     2     1     2"
+          ∷ "    15     2     2     2     1"
+          ∷ [])
+          ++ (1 ∷ []);
+    }))
+    ∷ row 22 (leaving p3 [] (replicate 13 1)) (hosted (record { refusal = 0; line = 0; length = 13; buffer = p3 }))
+    ∷ row 22 (leaving p3 [] (replicate 12 1)) (hosted (record { refusal = 9; line = 0; length = 0; buffer = replicate 12 1 }))
+    ∷ row 22 (leaving p3 (lines ("     5" ∷ "     8" ∷ [])) []) (hosted (record { refusal = 19; line = 2; length = 0; buffer = [] }))
+    ∷ row 22 (leaving [] (lines ("     8" ∷ [])) []) (hosted (record { refusal = 1; line = 1; length = 0; buffer = [] }))
     ∷ []
 
 abbrev asked : List Row → List Said
@@ -385,5 +427,5 @@ said t = map (λ (r : Row). r .says) t
 
 -- the rules say what the table says
 cases : asked table ≡ said table
-unfolding table bytes lines _and_ _or_ mem every sumTo most maxTo orElse firstTo anyTo allTo lesser leastTo greater greatestTo thoseTo listTo isBatch goodInstruments goodMinutes isInstrument distinct goodList goodBatch sound digits loneZero blanks field numberAt placeAt endOfLine headLine instrumentsAt batchLine batchLines read columns fields renderBatches render batchWithinLimits withinLimits kept edit load makespan longest total permitted elsewhere improvesAt improves review mover target moved squares settleBy settle atLevel underloaded overloaded unplaced machineArc jobArc liftOver pushOr deed jobDeed machineDeed someUnderloaded actMachine actJob act stepsBy liftBound pushBound endedBy overflows reach reachBy closure group trial searchBy balance within confined share lowerBound multiples equalLengths closeTo plan answer next answers batchListing listing program host numbersAt listAt addAt withdrawAt requalifyAt moveAt trialAt callAt callLine linesBy journal answerLines runHost
+unfolding table bytes lines _and_ _or_ mem every sumTo most maxTo orElse firstTo anyTo allTo lesser leastTo greater greatestTo thoseTo listTo isBatch goodInstruments goodMinutes isInstrument distinct goodList goodBatch sound digits loneZero blanks field numberAt placeAt endOfLine headLine instrumentsAt batchLine batchLines read columns fields renderBatches render written openInBatches openColumns alike batchWithinLimits withinLimits kept edit load makespan longest total permitted elsewhere improvesAt improves review mover target moved squares settleBy settle atLevel underloaded overloaded unplaced machineArc jobArc liftOver pushOr deed jobDeed machineDeed someUnderloaded actMachine actJob act stepsBy liftBound pushBound endedBy overflows reach reachBy closure group trial searchBy balance within confined share lowerBound multiples equalLengths closeTo plan answer next bookAfter answers intoBuffer batchListing listing program host numbersAt listAt addAt withdrawAt requalifyAt moveAt trialAt callAt callLine linesBy journal answerLines runHost writeHost
 cases = refl

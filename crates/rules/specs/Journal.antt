@@ -3,16 +3,17 @@
 use Prim.Native.Nat.{ℕ, zero, suc}
 use mathlib.Core.List.{List, [], _∷_, _++_}
 use lib.ListN.{length}
-use lib.Dec.{leb, eqb}
+use lib.Dec.{eqb}
 use Rattle.rules.specs.Fold.{pick}
 use Rattle.rules.specs.Refusal.{malformed, number}
 use Rattle.rules.specs.Sheet.{Book}
 use Rattle.rules.specs.Read.{Part, gives, refuses, andThen, numberAt, endOfLine, Reading, accepted, refusedAt, read}
 use Rattle.rules.specs.Render.{columns, fields, line}
+use Rattle.rules.specs.Rewrite.{written}
 use Rattle.rules.specs.Edit.{add, withdraw, requalify, move}
 use Rattle.rules.specs.Plan.{Plan}
-use Rattle.rules.specs.Run.{Call, editing, reviewing, trying, planning, Answer, refused, done, reviewed, tried, planned, answers, answerNumbers}
-use Rattle.rules.specs.Listing.{Hosted, intoBuffer}
+use Rattle.rules.specs.Run.{Call, editing, reviewing, trying, planning, Answer, refused, done, reviewed, tried, planned, bookAfter, answers, answerNumbers}
+use Rattle.rules.specs.Lent.{Due, text, refusal, Hosted, intoBuffer}
 
 -- the refusal of a journal that is not of the form below
 abbrev pub badJournal : ℕ
@@ -101,17 +102,25 @@ unfoldable pub answerLines : List Answer → List ℕ
 answerLines [] = []
 answerLines (a ∷ rest) = answerLine a ++ answerLines rest
 
--- ---- the host's call: a sheet, a journal, and a buffer lent for the answers
+-- ---- the host's calls: a sheet, a journal, and a buffer lent for a text
 
--- a journal is judged whole before its first call is made
-abbrev pub ranOn : Book → Journal → List ℕ → Hosted
-ranOn k (calls cs) buffer = let text = answerLines (answers k cs) in intoBuffer (leb (length text) (length buffer)) text buffer
-ranOn k (faulty j) buffer = record { refusal = badJournal; line = j; length = 0; buffer = buffer }
+-- The text that the sheet's book and the journal's calls make. The sheet is judged first, then the journal, whole, before its first
+-- call is made.
+abbrev pub runDue : (Book → List Call → List ℕ) → Reading → Journal → Due
+runDue f (accepted k) (calls cs) = text (f k cs)
+runDue f (accepted k) (faulty j) = refusal badJournal j
+runDue f (refusedAt e j) c = refusal (number e) j
 
--- the sheet is judged before the journal
-abbrev pub ranFrom : Reading → Journal → List ℕ → Hosted
-ranFrom (accepted k) c buffer = ranOn k c buffer
-ranFrom (refusedAt e j) c buffer = record { refusal = number e; line = j; length = 0; buffer = buffer }
+-- the answers of the calls
+abbrev pub answerText : Book → List Call → List ℕ
+answerText k cs = answerLines (answers k cs)
 
 unfoldable pub runHost : List ℕ → List ℕ → List ℕ → Hosted
-runHost s c buffer = ranFrom (read s) (journal c) buffer
+runHost s c buffer = intoBuffer (runDue answerText (read s) (journal c)) buffer
+
+-- the sheet as the calls leave it
+abbrev pub sheetText : Book → List Call → List ℕ
+sheetText k cs = written (bookAfter k cs)
+
+unfoldable pub writeHost : List ℕ → List ℕ → List ℕ → Hosted
+writeHost s c buffer = intoBuffer (runDue sheetText (read s) (journal c)) buffer

@@ -5,9 +5,9 @@
 --   One trial          Trial, Group
 --   Planning           Balance, LowerBound, Plan
 --   Runs               Run
---   The listing        Listing
+--   The listing        Lent, Listing
 --   Cases              Cases, and Text, in which its files are written
--- Journal, calls and answers as texts, is not in document 01. Round is document 02's C-12.
+-- Journal, calls and answers as texts, is not in document 01. Round and Rewrite are document 02's C-12 and C-13.
 -- Fold has the lists by number and the folds over 1 to k that all of them use.
 pub mod Fold
 pub mod Refusal
@@ -15,6 +15,7 @@ pub mod Sheet
 pub mod Field
 pub mod Read
 pub mod Render
+pub mod Rewrite
 pub mod Edit
 pub mod Instance
 pub mod Load
@@ -26,6 +27,7 @@ pub mod LowerBound
 pub mod Round
 pub mod Plan
 pub mod Run
+pub mod Lent
 pub mod Listing
 pub mod Journal
 pub mod Text

@@ -9,7 +9,7 @@ use lib.Seq.{take-at, getD-append-add}
 use lib.Dec.{leb, ltb}
 use borrow.Author.Tests.{leb-true, ltb-true, ltb-false}
 use Rattle.rules.specs.Fold.{pick, at, mem, sumTo}
-use Rattle.rules.specs.Sheet.{Book, noBatchHere, goodInstruments, goodMinutes}
+use Rattle.rules.specs.Sheet.{Book, Batch, noBatchHere, goodInstruments, goodMinutes}
 use Rattle.rules.specs.Instance.{Instance, Assignment, Job, noJob, n, jobOf, instance, places, minutesOf, listOf, eligible}
 use Rattle.rules.specs.Run.{withPlaces}
 use Rattle.theory.proofs.Small.{Small}
@@ -18,7 +18,7 @@ use Rattle.theory.proofs.Fold.{sumTo-bound}
 use Rattle.theory.proofs.Valid.{Valid, Permitted}
 use Rattle.theory.proofs.Sound.{sound-is, jobs-count, sound-valid, sound-permitted, placed-sound}
 use Rattle.sheet.specs.declared.Sheet.{Sheet}
-use Rattle.sheet.specs.Represent.{padded, sheetOf, bookOf, Sound}
+use Rattle.sheet.specs.Represent.{padded, rows, sheetOf, bookOf, Sound}
 use Rattle.sheet.specs.View.{marksOf, markRows, marks}
 use Rattle.theory.proofs.Entries.{getD-zeros}
 use Rattle.sheet.proofs.Represent.{book-sheet, sheet-sound}
@@ -43,6 +43,20 @@ view-minutes s v = ap (λ (t : Sheet). t .minutes) (sym (v .arrays)) ∙ minutes
 
 pub view-places : (s : Sheet) → Sound s → s .places ≡ padded 200 (places (bookOf s))
 view-places s v = ap (λ (t : Sheet). t .places) (sym (v .arrays)) ∙ places-law (bookOf s)
+
+counts-law : (k : Book) → sheetOf k .counts ≡ padded 200 (map (λ (b : Batch). length (b .list)) (k .batches))
+unfolding sheetOf
+counts-law k = refl
+
+rows-law : (k : Book) → sheetOf k .lists ≡ padded 4800 (rows (k .batches))
+unfolding sheetOf
+rows-law k = refl
+
+pub view-counts : (s : Sheet) → Sound s → s .counts ≡ padded 200 (map (λ (b : Batch). length (b .list)) (bookOf s .batches))
+view-counts s v = ap (λ (t : Sheet). t .counts) (sym (v .arrays)) ∙ counts-law (bookOf s)
+
+pub view-rows : (s : Sheet) → Sound s → s .lists ≡ padded 4800 (rows (bookOf s .batches))
+view-rows s v = ap (λ (t : Sheet). t .lists) (sym (v .arrays)) ∙ rows-law (bookOf s)
 
 -- the minutes of job number b
 pub minutes-at : (I : Instance) (b : ℕ) → at (padded 200 (map (λ (j : Job). j .minutes) (I .jobs))) b ≡ minutesOf I b

@@ -7,6 +7,7 @@ ghost use lib.Seq.{paste};
 ghost use Rattle.rules.specs.Fold.{_and_, mem};
 ghost use Rattle.rules.specs.Edit.{kept};
 ghost use Rattle.sheet.specs.Represent.{appended, blank};
+ghost use Rattle.sheet.specs.Answers.{numberOf};
 
 pub mod edit;
 pub mod read;
@@ -24,6 +25,24 @@ pub enum Refusal {
     SheetFull,
     LevelAbove,
     BufferShort,
+}
+
+// A refusal's number in document 01; 0 for none.
+pub fn code(refusal: Refusal) -> u32
+    ensures { λ r. ⌜ r ≡ numberOf refusal ⌝ }
+{
+    match refusal {
+        Refusal::Nothing => 0,
+        Refusal::Malformed => 1,
+        Refusal::BadSize => 2,
+        Refusal::BadLength => 3,
+        Refusal::BadList => 4,
+        Refusal::BadPlace => 5,
+        Refusal::NoBatch => 6,
+        Refusal::SheetFull => 7,
+        Refusal::LevelAbove => 8,
+        Refusal::BufferShort => 9,
+    }
 }
 
 // What a sheet holds, in arrays: batch b's list starts at 24 (b - 1) in lists. Whatever is not used is 0.

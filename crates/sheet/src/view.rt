@@ -4,9 +4,10 @@ ghost use mathlib.Core.Path.{_≡_};
 ghost use mathlib.Core.List.{map};
 ghost use lib.ListN.{length, getD, take, drop, replicate};
 ghost use lib.Seq.{paste};
+ghost use Rattle.rules.specs.Sheet.{Batch};
 ghost use Rattle.rules.specs.Instance.{Job, instance, n, places};
 ghost use Rattle.rules.specs.Run.{withPlaces};
-ghost use Rattle.sheet.specs.Represent.{Sound, padded, bookOf, sheetOf};
+ghost use Rattle.sheet.specs.Represent.{Sound, padded, rows, bookOf, sheetOf};
 ghost use Rattle.sheet.specs.View.{marksOf, marks, keptPlaces};
 use crate::Sheet;
 use crate::kept_in;
@@ -40,6 +41,22 @@ impl Sheet {
         ensures { λ r. ⌜ r ≡ padded 200 (places (bookOf self)) ⌝ }
     {
         self.places
+    }
+
+    // How many instruments each batch's list has; 0 past the last batch.
+    pub fn counts(self) -> [u8; 200]
+        requires { ⌜ Sound self ⌝ }
+        ensures { λ r. ⌜ r ≡ padded 200 (map (λ (b : Batch). length (b .list)) (bookOf self .batches)) ⌝ }
+    {
+        self.counts
+    }
+
+    // The lists in their order, batch b's from 24 (b - 1) on; 0 past the end of each.
+    pub fn lists(self) -> [u8; 4800]
+        requires { ⌜ Sound self ⌝ }
+        ensures { λ r. ⌜ r ≡ padded 4800 (rows (bookOf self .batches)) ⌝ }
+    {
+        self.lists
     }
 
     // 1 at 24 (b - 1) + (i - 1) where instrument i may run batch b; 0 elsewhere.

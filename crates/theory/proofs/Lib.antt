@@ -1,6 +1,7 @@
 pub mod Enter
 pub mod Entries
 pub mod Logic
+pub mod Refusal
 pub mod Fold
 pub mod View
 pub mod Agree
@@ -31,9 +32,11 @@ pub mod Trial
 pub mod Quiet
 pub mod Balancing
 pub mod Field
+pub mod Fields
 pub mod Format
 pub mod Parse
 pub mod Sound
+pub mod Rewrite
 pub mod Planning
 pub mod Runs
 pub mod Iterate

@@ -5,8 +5,10 @@ use mathlib.Core.Path.{_≡_, refl, _∙_}
 use mathlib.Core.Bool.{true}
 use mathlib.Core.List.{List, [], _∷_}
 use native.Mathlib.Omega.{arith}
+use lib.ListN.{length}
 use Rattle.rules.specs.Sheet.{Book, sound}
 use Rattle.rules.specs.Read.{read, accepted}
+use Rattle.rules.specs.Rewrite.{written}
 use Rattle.rules.specs.Edit.{Edit, Edited, refused, edited, edit}
 use Rattle.rules.specs.Instance.{Instance, Assignment, instance, places, n}
 use Rattle.rules.specs.Load.{longest, makespan, equilibrium, review}
@@ -14,9 +16,10 @@ use Rattle.rules.specs.Trial.{atLevel, ended, liftBound, pushBound}
 use Rattle.rules.specs.Group.{trial}
 use Rattle.rules.specs.LowerBound.{witnessed}
 use Rattle.rules.specs.Round.{multiples, equalLengths, closeTo}
-use Rattle.rules.specs.Run.{Call, editing, reviewing, trying, planning, next, editBook, planBook}
+use Rattle.rules.specs.Run.{Call, editing, reviewing, trying, planning, next, bookAfter, editBook, planBook}
 use Rattle.theory.proofs.Valid.{Valid, Permitted}
 use Rattle.theory.proofs.Sound.{read-sound, edit-sound, sound-valid, sound-permitted, placed-sound, placed-places, placed-instance, jobs-count}
+use Rattle.theory.proofs.Rewrite.{read-written, most-written}
 use Rattle.theory.proofs.Review.{Improves, review-settled, settled-review, settled-none, none-settled}
 use Rattle.theory.proofs.Heights.{permitted-partial}
 use Rattle.theory.proofs.Ending.{trial-lifts, trial-pushes}
@@ -61,8 +64,14 @@ pub record Reviews (k : Book) : Type 0 where
   pub unsettled : ((b : ℕ) → 0 < b → b ≤ n (instance k) → Improves (instance k) (places k) b → ⊥)
       → review (instance k) (places k) .improving ≡ 0
 
+-- of the file written from it: it is read as the very same book, and has at most 32,613 bytes
+pub record Files (k : Book) : Type 0 where
+  pub same : read (written k) ≡ accepted k
+  pub few : length (written k) ≤ 32613
+
 pub record Claims (k : Book) : Type 0 where
   pub sound : sound k ≡ true
+  pub files : Files k
   pub reviews : Reviews k
   pub trials : Trials k
   pub plans : Plans k
@@ -84,6 +93,7 @@ sound-claims k e =
     let w = sound-permitted k e in
     record {
       sound = e;
+      files = record { same = read-written k e; few = most-written k e };
       reviews = record {
         settled = λ z. settled-none I x (review-settled I x z);
         unsettled = λ h. settled-review I x (none-settled I x h);
@@ -143,6 +153,11 @@ next-sound k reviewing h = h
 next-sound k (trying a) h = h
 next-sound k planning h =
     placed-sound k (planBook k .assignment) h (plan-permitted (instance k) (places k) (sound-valid k h) (sound-permitted k h))
+
+pub after-sound : (k : Book) (cs : List Call) → sound k ≡ true → sound (bookAfter k cs) ≡ true
+unfolding bookAfter
+after-sound k [] h = h
+after-sound k (c ∷ cs) h = after-sound (next k c) cs (next-sound k c h)
 
 -- the claims hold on the book before each call of a list, and on the book after it
 pub data Throughout : Book → List Call → Type 0 where

@@ -22,7 +22,8 @@ use Rattle.theory.proofs.Acting.{below, deed-pushes, deed-lifts, deed-ext, act-
 use Rattle.arrays.specs.Sets.{has}
 use Rattle.arrays.proofs.Kept.{kept-on}
 use Rattle.trials.specs.declared.State.{State}
-use Rattle.trials.specs.Moves.{waits, jobPlaced, jobLifted}
+use Rattle.scans.specs.Waits.{waits}
+use Rattle.trials.specs.Moves.{jobPlaced, jobLifted}
 use Rattle.trials.specs.Track.{stateOf, idle, JobActs, Stepped}
 use Rattle.arrays.proofs.Take.{at-take, take-put}
 use Rattle.trials.proofs.Waiting.{some-machine, first-can}

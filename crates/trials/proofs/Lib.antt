@@ -1,11 +1,8 @@
-pub mod Groups
 pub mod JobActing
 pub mod MachineActing
-pub mod Reaching
 pub mod Running
 pub mod Scanned
 pub mod Small
 pub mod Stepping
 pub mod Verdict
 pub mod Waiting
-pub mod Within

@@ -22,7 +22,8 @@ use Rattle.theory.proofs.Acting.{below, deed-pushes, deed-lifts, deed-ext, able
 use Rattle.arrays.proofs.Words.{set-zero}
 use Rattle.arrays.proofs.Kept.{left-enough, kept-off}
 use Rattle.trials.specs.declared.State.{State}
-use Rattle.trials.specs.Moves.{waits, takenOff, machineLifted}
+use Rattle.scans.specs.Waits.{waits}
+use Rattle.trials.specs.Moves.{takenOff, machineLifted}
 use Rattle.trials.specs.Track.{stateOf, idle, MachineActs, Stepped}
 use Rattle.arrays.proofs.Take.{at-take, take-put}
 use Rattle.trials.proofs.Waiting.{first-can}

@@ -15,7 +15,7 @@ use Rattle.theory.proofs.Steps.{made, Acting, adds-one}
 use Rattle.theory.proofs.Ending.{Counted, counted-step, counted-start}
 use Rattle.theory.proofs.Iterate.{Leads, here, step, leads-trans, leads-end}
 use Rattle.trials.specs.declared.State.{State}
-use Rattle.trials.specs.Moves.{waits}
+use Rattle.scans.specs.Waits.{waits}
 use Rattle.trials.specs.Track.{stateOf, idle, Beside, Setup, Trying, Stepped, Starts, Ends}
 
 -- the steps of the rules lead from x to t, and nothing acts there where t rests

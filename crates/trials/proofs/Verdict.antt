@@ -24,7 +24,7 @@ use Rattle.arrays.specs.Reads.{Kept}
 use Rattle.trials.specs.declared.State.{State}
 use Rattle.trials.specs.Track.{stateOf, Setup, Starts, Ends}
 use Rattle.trials.specs.Attempt.{Standing, Tries}
-use Rattle.trials.specs.Grouping.{groupBy}
+use Rattle.scans.specs.Grouping.{groupBy}
 use Rattle.trials.proofs.Scanned.{some-is, first-overloaded}
 
 -- 24 times the same limit

@@ -23,7 +23,7 @@ use Rattle.arrays.specs.Reads.{Reads}
 use Rattle.arrays.specs.Sets.{has}
 use Rattle.arrays.proofs.Words.{set-zero, empty-zero}
 use Rattle.trials.specs.declared.State.{State}
-use Rattle.trials.specs.Moves.{waits}
+use Rattle.scans.specs.Waits.{waits}
 use Rattle.trials.specs.Track.{stateOf, Tracks}
 use Rattle.arrays.proofs.Take.{at-take}
 

@@ -1,4 +1,3 @@
 pub mod Attempt
-pub mod Grouping
 pub mod Moves
 pub mod Track

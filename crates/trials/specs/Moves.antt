@@ -1,15 +1,11 @@
 -- What each of the four moves makes of a state's arrays. Jobs and machines are given by index.
 use Prim.Native.Nat.{ℕ, _+_, _-_}
-use mathlib.Core.Bool.{Bool, true}
+use mathlib.Core.Bool.{true}
 use mathlib.Core.List.{List}
 use lib.ListN.{getD, set}
-use lib.Dec.{eqb, ltb}
-use Rattle.rules.specs.Fold.{_and_, at, firstTo}
+use Rattle.rules.specs.Fold.{firstTo}
+use Rattle.scans.specs.Waits.{waits}
 use Rattle.trials.specs.declared.State.{State}
-
--- the job with number b has no place, and some machine may run it
-abbrev pub waits : List ℕ → List ℕ → ℕ → Bool
-waits places sets b = eqb (at places b) 0 and ltb 0 (at sets b)
 
 abbrev pub rested : State → State
 rested t = record {

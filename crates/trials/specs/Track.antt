@@ -13,7 +13,7 @@ use Rattle.theory.proofs.Ending.{Counted}
 use Rattle.theory.proofs.Acting.{able}
 use Rattle.arrays.specs.Reads.{Reads, Kept}
 use Rattle.trials.specs.declared.State.{State}
-use Rattle.trials.specs.Moves.{waits}
+use Rattle.scans.specs.Waits.{waits}
 
 -- the rules' state that the arrays hold
 abbrev pub stateOf : Instance → State → T.State

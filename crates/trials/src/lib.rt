@@ -3,14 +3,13 @@ ghost use mathlib.Core.Path.{_≡_};
 ghost use Prim.Native.Nat.{_+_, _<_, _≤_, _^_};
 ghost use lib.ListN.{length, getD};
 ghost use Rattle.theory.proofs.View.{None};
-ghost use Rattle.trials.specs.Moves.{waits, jobLifted, machineLifted, jobPlaced, takenOff, rested};
-use crate::scan::first_waiting;
+ghost use Rattle.scans.specs.Waits.{waits};
+ghost use Rattle.trials.specs.Moves.{jobLifted, machineLifted, jobPlaced, takenOff, rested};
 use arrays::JOBS;
 use arrays::MACHINES;
+use scans::scan::first_waiting;
 
-pub mod group;
 pub mod run;
-pub mod scan;
 pub mod step;
 pub mod trial;
 

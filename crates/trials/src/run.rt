@@ -6,10 +6,10 @@ ghost use Rattle.rules.specs.Instance.{Instance};
 ghost use Rattle.rules.specs.Trial.{Limits};
 ghost use Rattle.trials.specs.Track.{Starts, Ends};
 use crate::State;
-use crate::scan::first_waiting;
 use crate::step::step;
 use arrays::JOBS;
 use arrays::MACHINES;
+use scans::scan::first_waiting;
 
 // From these places, of these loads, with a low and a high limit for each machine: steps until nothing acts.
 pub fn run(

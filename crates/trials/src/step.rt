@@ -6,12 +6,12 @@ ghost use Rattle.rules.specs.Instance.{Instance};
 ghost use Rattle.rules.specs.Trial.{Limits};
 ghost use Rattle.trials.specs.Track.{JobActs, MachineActs, Trying, Stepped};
 use crate::State;
-use crate::scan::first_able;
-use crate::scan::job_below;
-use crate::scan::least_job;
-use crate::scan::least_machine;
-use crate::scan::machine_below;
-use crate::scan::some_underloaded;
+use scans::scan::first_able;
+use scans::scan::job_below;
+use scans::scan::least_job;
+use scans::scan::least_machine;
+use scans::scan::machine_below;
+use scans::scan::some_underloaded;
 
 // The lowest job that waits, `b` by index, goes to a machine just below it, or is lifted.
 fn job_step(t: State, minutes: &[u16], masks: &[u32], m: usize, n: usize, b: usize) -> State

@@ -5,11 +5,11 @@ ghost use lib.ListN.{length, take};
 ghost use Rattle.rules.specs.Instance.{Instance};
 ghost use Rattle.rules.specs.Load.{longest};
 ghost use Rattle.trials.specs.Attempt.{Standing, Tries};
-use crate::group::group_of;
 use crate::run::run;
-use crate::scan::first_overloaded;
 use arrays::JOBS;
 use arrays::MACHINES;
+use scans::group::group_of;
+use scans::scan::first_overloaded;
 
 // What a trial leaves: its places and their loads, pass or failure, the group of a failure as a set, and its counts.
 pub struct Attempt {

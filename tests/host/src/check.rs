@@ -1,25 +1,25 @@
-//! Compares the call with the second planner: what it returns, the listing,
-//! and every byte of the buffer and around it.
+//! Compares the calls that take a sheet alone with the second planner: what
+//! they return, the text, and every byte of the buffer and around it.
 
 use std::collections::BTreeSet;
-use std::sync::atomic::{AtomicU64, Ordering};
-use std::sync::Mutex;
-use std::thread;
 
-use against::Case;
+use second::gen;
 
+use crate::cases::Case;
 use crate::due::Due;
 use crate::listing::{Listing, MOST};
-use crate::{plan_second, Hosted};
+use crate::share::shared;
+use crate::{plan, plan_second, rewrite, Hosted};
 
-/// The fewest bytes that a listing has: that of a sheet without a batch.
+/// The fewest bytes that a listing has: that of a sheet without a batch. A
+/// written sheet has more than the two that a room may be short of.
 pub const LEAST: usize = 43 + 7;
 
 /// Bytes watched on either side of a buffer.
 const MARGIN: usize = 64;
 
-/// Buffers by their size beside that of the listing, which counts as the
-/// least where there is none.
+/// Buffers by their size beside that of the text, which counts as the least
+/// listing where there is none.
 #[derive(Clone, Copy, Debug, PartialEq, Eq)]
 pub enum Room {
     Empty,
@@ -44,21 +44,21 @@ impl Room {
         Room::Large,
     ];
 
-    fn size(self, listing: usize) -> usize {
+    fn size(self, text: usize) -> usize {
         match self {
             Room::Empty => 0,
             Room::One => 1,
-            Room::TwoShort => listing - 2,
-            Room::OneShort => listing - 1,
-            Room::Exact => listing,
-            Room::OneMore => listing + 1,
-            Room::TwoMore => listing + 2,
-            Room::Large => 2 * MOST,
+            Room::TwoShort => text - 2,
+            Room::OneShort => text - 1,
+            Room::Exact => text,
+            Room::OneMore => text + 1,
+            Room::TwoMore => text + 2,
+            Room::Large => text + 2 * MOST,
         }
     }
 }
 
-/// What the second planner makes of a sheet.
+/// The listing that the second planner makes of a sheet.
 pub fn listing_due(sheet: &[u8]) -> Due {
     let mut listing = vec![0; MOST];
     let answer = plan_second(sheet, &mut listing);
@@ -71,6 +71,14 @@ pub fn listing_due(sheet: &[u8]) -> Due {
             refusal,
             line: answer.line,
         },
+    }
+}
+
+/// A sheet as the second planner writes it back.
+pub fn rewritten_due(sheet: &[u8]) -> Due {
+    match second::read(sheet) {
+        Ok(sheet) => Due::Text(second::write(&sheet)),
+        Err(fault) => Due::fault(fault),
     }
 }
 
@@ -116,11 +124,14 @@ impl Lent {
     }
 }
 
-/// Makes calls of a planner and watches the memory that it lends.
+/// Makes calls with a sheet and watches the memory that it lends.
 pub struct Judge<P> {
     planner: P,
     lent: Lent,
 }
+
+/// Calls by refusal number, 0 for none, and by kind of buffer.
+pub type Calls = [[usize; 8]; 10];
 
 impl<P: Fn(&[u8], &mut [u8]) -> Hosted> Judge<P> {
     pub fn new(planner: P) -> Judge<P> {
@@ -133,24 +144,29 @@ impl<P: Fn(&[u8], &mut [u8]) -> Hosted> Judge<P> {
     /// One call, with a buffer of this size.
     pub fn call(&mut self, sheet: &[u8], size: usize, due: &Due) -> Result<Hosted, String> {
         let planner = &self.planner;
-        let hosted = self.lent.lend(size, |listing| planner(sheet, listing));
-        let (answer, listing) = due.at(size);
+        let hosted = self.lent.lend(size, |text| planner(sheet, text));
+        let (answer, text) = due.at(size);
         if hosted != answer {
             return Err(format!("returned {hosted:?}, expected {answer:?}"));
         }
-        self.lent.holds(listing)?;
+        self.lent.holds(text)?;
         Ok(hosted)
     }
 
-    /// A call with each kind of buffer.
-    pub fn rooms(&mut self, sheet: &[u8], due: &Due, met: &mut Met) -> Result<(), String> {
-        met.sheet(sheet, due);
-        for (k, room) in Room::ALL.into_iter().enumerate() {
+    /// A call with each of these buffers.
+    pub fn rooms(
+        &mut self,
+        sheet: &[u8],
+        due: &Due,
+        rooms: &[Room],
+        calls: &mut Calls,
+    ) -> Result<(), String> {
+        for &room in rooms {
             let size = room.size(due.length_or(LEAST));
             let hosted = self
                 .call(sheet, size, due)
                 .map_err(|fault| format!("a buffer of {size} ({room:?}): {fault}"))?;
-            met.calls[hosted.refusal as usize][k] += 1;
+            calls[hosted.refusal as usize][room as usize] += 1;
         }
         Ok(())
     }
@@ -161,11 +177,18 @@ impl<P: Fn(&[u8], &mut [u8]) -> Hosted> Judge<P> {
 pub struct Met {
     /// Good and bad.
     pub sheets: usize,
-    /// Calls by refusal number, 0 for none, and by kind of buffer.
-    pub calls: [[usize; 8]; 10],
-    /// By refusal number, the lines at which reading was refused.
+    /// Plannings and rewritings.
+    pub planned: Calls,
+    pub rewritten: Calls,
+    /// By refusal number, the lines at which reading was refused, and how often
+    /// that was one with its place left blank.
     pub lines: [BTreeSet<usize>; 10],
+    pub at_blank: [usize; 10],
     pub plans: Plans,
+    /// Sheets that were written as they were given, and those in which a place
+    /// was filled in.
+    pub same: usize,
+    pub filled: usize,
 }
 
 /// What the plans came to.
@@ -201,7 +224,11 @@ impl Met {
         self.sheets += 1;
         match due {
             Due::Refused { refusal, line } => {
-                self.lines[*refusal as usize].insert(*line);
+                let number = *refusal as usize;
+                self.lines[number].insert(*line);
+                let text = sheet.split(|&b| b == b'\n').nth(line - 1);
+                let place = text.and_then(|text| text.get(6..12));
+                self.at_blank[number] += (*line > 1 && place == Some(b"      ")) as usize;
             }
             Due::Text(listing) => self.plans.plan(sheet, listing),
         }
@@ -212,24 +239,29 @@ impl Met {
         for (ours, theirs) in self.lines.iter_mut().zip(other.lines) {
             ours.extend(theirs);
         }
-        for (ours, theirs) in self.calls.iter_mut().zip(other.calls) {
-            for (sum, count) in ours.iter_mut().zip(theirs) {
-                *sum += count;
+        for number in 0..10 {
+            self.at_blank[number] += other.at_blank[number];
+            for room in 0..8 {
+                self.planned[number][room] += other.planned[number][room];
+                self.rewritten[number][room] += other.rewritten[number][room];
             }
         }
         self.plans.add(&other.plans);
-    }
-
-    /// Calls that were refused with this number.
-    pub fn refused(&self, number: usize) -> usize {
-        self.calls[number].iter().sum()
+        self.same += other.same;
+        self.filled += other.filled;
     }
 
     /// What a test prints of it.
     pub fn summary(&self) -> String {
-        let calls: Vec<usize> = (0..10).map(|number| self.refused(number)).collect();
+        let sum = |calls: Calls| calls.map(|rooms| rooms.into_iter().sum::<usize>());
         let (sheets, plans) = (self.sheets, &self.plans);
-        format!("{sheets} sheets, calls by refusal {calls:?}, {plans:?}")
+        let (planned, rewritten) = (sum(self.planned), sum(self.rewritten));
+        let (same, filled, at_blank) = (self.same, self.filled, self.at_blank);
+        format!(
+            "{sheets} sheets, plannings by refusal {planned:?}, {plans:?}; rewritings \
+             {rewritten:?}, {same} the same, {filled} with places filled in; refused at a line \
+             with a blank place {at_blank:?}"
+        )
     }
 }
 
@@ -285,34 +317,54 @@ impl Plans {
     }
 }
 
-/// Compare many runs, two at a time: `make` gives the sheets of each, and
-/// every sheet is planned with each kind of buffer.
+/// Compare many runs, two at a time: `make` gives the sheets of each. All are
+/// planned and rewritten, every second one with each kind of buffer and the
+/// others with one that just fits.
 pub fn compare(runs: u64, make: impl Fn(u64) -> Vec<Case> + Sync) -> Met {
-    let next = AtomicU64::new(0);
-    let total = Mutex::new(Met::default());
-    thread::scope(|scope| {
-        for _ in 0..2 {
-            scope.spawn(|| {
-                let mut judge = Judge::new(crate::plan);
-                let mut met = Met::default();
-                loop {
-                    let run = next.fetch_add(1, Ordering::Relaxed);
-                    if run >= runs {
-                        break;
-                    }
-                    for case in make(run) {
-                        let due = listing_due(&case.sheet);
-                        judge
-                            .rooms(&case.sheet, &due, &mut met)
-                            .unwrap_or_else(|fault| {
-                                let sheet = String::from_utf8_lossy(&case.sheet);
-                                panic!("run {run}: {fault}\nsheet:\n{sheet}")
-                            });
-                    }
-                }
-                total.lock().unwrap().add(met);
-            });
+    let start = || (Judge::new(plan), Judge::new(rewrite), Met::default());
+    let states = shared(runs, start, |run, (planner, writer, met)| {
+        for (k, Case { sheet, .. }) in make(run).into_iter().enumerate() {
+            let rooms = match k % 2 {
+                0 => Room::ALL.as_slice(),
+                _ => &[Room::Exact],
+            };
+            let listing = listing_due(&sheet);
+            met.sheet(&sheet, &listing);
+            planner
+                .rooms(&sheet, &listing, rooms, &mut met.planned)
+                .and_then(|()| rewriting(writer, &sheet, rooms, met))
+                .unwrap_or_else(|fault| {
+                    let sheet = String::from_utf8_lossy(&sheet);
+                    panic!("run {run}: {fault}\nsheet:\n{sheet}")
+                });
         }
     });
-    total.into_inner().unwrap()
+    let mut total = Met::default();
+    states.into_iter().for_each(|(_, _, met)| total.add(met));
+    total
+}
+
+/// Write a sheet back. The text is the file's own, places not given apart, and
+/// that of its own rewriting.
+fn rewriting<P: Fn(&[u8], &mut [u8]) -> Hosted>(
+    writer: &mut Judge<P>,
+    sheet: &[u8],
+    rooms: &[Room],
+    met: &mut Met,
+) -> Result<(), String> {
+    let due = rewritten_due(sheet);
+    writer.rooms(sheet, &due, rooms, &mut met.rewritten)?;
+    let Due::Text(written) = &due else {
+        return Ok(());
+    };
+    if *written != gen::with_places(sheet) {
+        return Err("rewriting changes more than places not given".into());
+    }
+    if written == sheet {
+        met.same += 1;
+    } else {
+        met.filled += 1;
+        writer.call(written, written.len(), &due)?;
+    }
+    Ok(())
 }

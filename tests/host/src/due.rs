@@ -1,5 +1,7 @@
 //! What a call from outside has to return and to write.
 
+use second::Fault;
+
 use crate::Hosted;
 
 /// A text, or a refusal with its line.
@@ -10,6 +12,14 @@ pub enum Due {
 }
 
 impl Due {
+    /// What is due where reading the sheet finds this fault.
+    pub fn fault(fault: Fault) -> Due {
+        Due::Refused {
+            refusal: fault.refusal.number(),
+            line: fault.line as usize,
+        }
+    }
+
     /// How many bytes the text has; for a refusal `least`.
     pub fn length_or(&self, least: usize) -> usize {
         match self {

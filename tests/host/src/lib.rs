@@ -1,15 +1,18 @@
-//! The planner as a host program calls it: a sheet's bytes go in, the
-//! listing's bytes come back in a lent buffer. With a journal's bytes beside
-//! the sheet's, those of its calls' answers come back.
+//! The planner as a host program calls it: bytes go in, and a text comes back
+//! in a lent buffer. From a sheet it is the listing; from a sheet and a journal
+//! the answers to the journal's calls, or the sheet as these leave it.
 
+pub mod cases;
 pub mod check;
 pub mod due;
 pub mod journal;
 pub mod kinds;
 pub mod listing;
 pub mod runs;
+pub mod seen;
+pub mod share;
 
-/// What both calls return: refusal 0 and how many bytes the text has, or a
+/// What every call returns: refusal 0 and how many bytes the text has, or a
 /// refusal of the sheet or the journal with its line (0 where the buffer is
 /// too short) and length 0.
 #[repr(C)]
@@ -36,7 +39,27 @@ extern "C" {
         answers: *mut u8,
         answers_len: usize,
     ) -> Hosted;
+
+    fn bankplan_write(
+        sheet: *const u8,
+        sheet_len: usize,
+        journal: *const u8,
+        journal_len: usize,
+        written: *mut u8,
+        written_len: usize,
+    ) -> Hosted;
 }
+
+/// The sheet of document 01's first case.
+pub const SHEET: &str = "     2     3
+    30     1     2     1     2
+    20     1     1     1
+    10     1     2     1     2
+";
+
+/// The most bytes that a written sheet has: 200 batches, each with a list of
+/// 24 instruments.
+pub const LARGEST_SHEET: usize = 13 + 200 * (6 * 27 + 1);
 
 /// Read the sheet, plan it and write the listing to the front of the buffer.
 /// This is the proved code.
@@ -70,6 +93,28 @@ pub fn run(sheet: &[u8], journal: &[u8], answers: &mut [u8]) -> Hosted {
     }
 }
 
+/// Read the sheet, make the journal's calls on it one after the other, and
+/// write the sheet that they leave to the front of the buffer. This is the
+/// proved code.
+pub fn write(sheet: &[u8], journal: &[u8], written: &mut [u8]) -> Hosted {
+    // SAFETY: as for the run.
+    unsafe {
+        bankplan_write(
+            sheet.as_ptr(),
+            sheet.len(),
+            journal.as_ptr(),
+            journal.len(),
+            written.as_mut_ptr(),
+            written.len(),
+        )
+    }
+}
+
+/// The same without a call.
+pub fn rewrite(sheet: &[u8], written: &mut [u8]) -> Hosted {
+    write(sheet, &[], written)
+}
+
 /// The second planner's answer in the same form.
 pub fn plan_second(sheet: &[u8], listing: &mut [u8]) -> Hosted {
     let answer = second::host(sheet, listing);
@@ -78,4 +123,18 @@ pub fn plan_second(sheet: &[u8], listing: &mut [u8]) -> Hosted {
         line: answer.line as usize,
         length: answer.length,
     }
+}
+
+/// The text that a call writes to a buffer which has room for it, or its
+/// refusal and line.
+pub fn text(call: impl FnOnce(&mut [u8]) -> Hosted) -> Result<String, (u32, usize)> {
+    let mut buffer = vec![0; 2 * LARGEST_SHEET];
+    let hosted = call(&mut buffer);
+    if hosted.refusal != 0 {
+        assert_eq!(hosted.length, 0);
+        return Err((hosted.refusal, hosted.line));
+    }
+    assert_eq!(hosted.line, 0);
+    buffer.truncate(hosted.length);
+    Ok(String::from_utf8(buffer).expect("plain text"))
 }

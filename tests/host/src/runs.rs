@@ -1,53 +1,72 @@
-//! Compares runs with the second planner's: what the call returns, the
-//! answers, and every byte of the buffer and around it.
+//! Compares the calls that take a journal with the second planner: what they
+//! return, the answers, the sheet that is left, and every byte of the buffer
+//! and around it.
 
 use std::collections::BTreeSet;
-use std::fmt::Write as _;
-use std::sync::atomic::{AtomicU64, Ordering};
-use std::sync::Mutex;
-use std::thread;
 
-use against::{Case, Seen};
-use second::{Call, Sheet};
+use second::{gen, Call, Sheet};
 
+use crate::cases::Case;
 use crate::check::Lent;
 use crate::due::Due;
 use crate::journal::{answers, journal, numbers, put_answer, read, GREATEST};
-use crate::{run, Hosted};
+use crate::seen::Seen;
+use crate::share::shared;
+use crate::{run, write, Hosted};
 
-/// The fewest bytes that an answer has: that of an edit.
+/// The fewest bytes that an answer has: that of an edit. A written sheet has
+/// more.
 pub const LEAST: usize = 7;
 
 /// The refusal of a journal that is not of the form.
 pub const BAD_JOURNAL: u32 = 19;
 
-/// What the second planner makes of a sheet and a journal. The sheet is judged
-/// first, then the journal.
-pub fn answers_due(sheet: &[u8], journal: &[u8]) -> Due {
+/// A call with a sheet and a journal; its text goes to the buffer.
+pub type Runner = fn(&[u8], &[u8], &mut [u8]) -> Hosted;
+
+/// The two: one writes the answers, the other the sheet.
+pub const BOTH: [Runner; 2] = [run, write];
+
+/// What the second planner makes of a sheet and a journal, for each of the two
+/// calls. The sheet is judged first, then the journal.
+pub fn dues(sheet: &[u8], journal: &[u8]) -> [Due; 2] {
     match (second::read(sheet), read(journal)) {
-        (Err(fault), _) => Due::Refused {
-            refusal: fault.refusal.number(),
-            line: fault.line as usize,
-        },
-        (Ok(_), Err(line)) => Due::Refused {
-            refusal: BAD_JOURNAL,
-            line,
-        },
-        (Ok(mut sheet), Ok(calls)) => Due::Text(answers(&mut sheet, &calls)),
+        (Err(fault), _) => [Due::fault(fault), Due::fault(fault)],
+        (Ok(_), Err(line)) => bad_journal(line),
+        (Ok(mut sheet), Ok(calls)) => {
+            let answers = answers(&mut sheet, &calls);
+            [answers, second::write(&sheet)].map(Due::Text)
+        }
     }
 }
 
-/// What makes a run: sheet and journal go in, the answers to the buffer.
-pub type Runner = fn(&[u8], &[u8], &mut [u8]) -> Hosted;
+/// What is due from each where a journal is not of the form at this line.
+pub fn bad_journal(line: usize) -> [Due; 2] {
+    [BAD_JOURNAL; 2].map(|refusal| Due::Refused { refusal, line })
+}
 
-/// Makes runs and watches the memory that it lends.
-pub struct Judge {
-    runner: Runner,
+/// Makes calls and watches the memory that it lends.
+pub struct Judge<R> {
+    runner: R,
     lent: Lent,
 }
 
-impl Judge {
-    pub fn new(runner: Runner) -> Judge {
+/// The buffers that a call is made with.
+#[derive(Clone, Copy, Debug)]
+pub enum Rooms {
+    /// Four: an empty one, one that is a byte short, one that just fits and
+    /// one that is longer by this much.
+    All(usize),
+    /// The third or the fourth of these alone.
+    Exact,
+    Longer(usize),
+}
+
+/// Calls by refusal number, 0 for none, and by buffer.
+pub type Calls = [[usize; 4]; BAD_JOURNAL as usize + 1];
+
+impl<R: Fn(&[u8], &[u8], &mut [u8]) -> Hosted> Judge<R> {
+    pub fn new(runner: R) -> Judge<R> {
         Judge {
             runner,
             lent: Lent::default(),
@@ -62,10 +81,8 @@ impl Judge {
         size: usize,
         due: &Due,
     ) -> Result<Hosted, String> {
-        let runner = self.runner;
-        let ran = self
-            .lent
-            .lend(size, |answers| runner(sheet, journal, answers));
+        let runner = &self.runner;
+        let ran = self.lent.lend(size, |text| runner(sheet, journal, text));
         let (answer, text) = due.at(size);
         if ran != answer {
             return Err(format!("returned {ran:?}, expected {answer:?}"));
@@ -74,31 +91,89 @@ impl Judge {
         Ok(ran)
     }
 
-    /// A call with each of four buffers: empty, one byte short, one that just
-    /// fits, and one that is longer by `spare`.
+    /// A call with each of these buffers.
     pub fn rooms(
         &mut self,
         sheet: &[u8],
         journal: &[u8],
         due: &Due,
-        spare: usize,
-        met: &mut Met,
+        rooms: Rooms,
+        calls: &mut Calls,
     ) -> Result<(), String> {
         let fit = due.length_or(LEAST);
-        let sizes = [Some(0), fit.checked_sub(1), Some(fit), Some(fit + spare)];
-        met.pairs += 1;
+        let sizes = match rooms {
+            Rooms::All(spare) => [Some(0), fit.checked_sub(1), Some(fit), Some(fit + spare)],
+            Rooms::Exact => [None, None, Some(fit), None],
+            Rooms::Longer(spare) => [None, None, None, Some(fit + spare)],
+        };
         for (k, size) in sizes.into_iter().enumerate() {
             let Some(size) = size else { continue };
             let ran = self
                 .call(sheet, journal, size, due)
                 .map_err(|fault| format!("a buffer of {size}: {fault}"))?;
-            met.calls[ran.refusal as usize][k] += 1;
-            if ran.refusal == BAD_JOURNAL {
-                met.lines.insert(ran.line);
-            }
+            calls[ran.refusal as usize][k] += 1;
         }
         Ok(())
     }
+}
+
+/// Makes both calls.
+pub struct Judges([Judge<Runner>; 2]);
+
+impl Default for Judges {
+    fn default() -> Judges {
+        Judges(BOTH.map(Judge::new))
+    }
+}
+
+impl Judges {
+    /// Each call with buffers of the sizes that `sizes` gives for the length of
+    /// its text; `made` gets what each returns.
+    pub fn call<I: IntoIterator<Item = usize>>(
+        &mut self,
+        sheet: &[u8],
+        journal: &[u8],
+        sizes: impl Fn(usize) -> I,
+        mut made: impl FnMut(Hosted),
+    ) {
+        for (judge, due) in self.0.iter_mut().zip(dues(sheet, journal)) {
+            for size in sizes(due.length_or(LEAST)) {
+                match judge.call(sheet, journal, size, &due) {
+                    Ok(ran) => made(ran),
+                    Err(fault) => fail(&format!("a buffer of {size}: {fault}"), sheet, journal),
+                }
+            }
+        }
+    }
+
+    /// Each call with each of these buffers.
+    pub fn rooms(
+        &mut self,
+        sheet: &[u8],
+        journal: &[u8],
+        dues: &[Due; 2],
+        rooms: Rooms,
+        met: &mut Met,
+    ) {
+        met.pairs += 1;
+        for (k, due) in dues.iter().enumerate() {
+            let calls = &mut met.calls[k];
+            if let Err(fault) = self.0[k].rooms(sheet, journal, due, rooms, calls) {
+                fail(&fault, sheet, journal);
+            }
+            if let Due::Refused { refusal, line } = *due {
+                if refusal == BAD_JOURNAL {
+                    met.lines.insert(line);
+                }
+            }
+        }
+    }
+}
+
+fn fail(fault: &str, sheet: &[u8], journal: &[u8]) -> ! {
+    let sheet = String::from_utf8_lossy(sheet);
+    let journal = String::from_utf8_lossy(journal);
+    panic!("{fault}\nsheet:\n{sheet}\njournal:\n{journal}\n{journal:?}")
 }
 
 /// How often each thing was met, so that a test can tell what it covered.
@@ -106,14 +181,14 @@ impl Judge {
 pub struct Met {
     /// Sheets with a journal, good and bad.
     pub pairs: usize,
-    /// Calls by refusal number, 0 for none, and by buffer as in
-    /// [`Judge::rooms`].
-    pub calls: [[usize; 4]; BAD_JOURNAL as usize + 1],
+    /// Of both calls.
+    pub calls: [Calls; 2],
     /// The lines at which a journal was refused.
     pub lines: BTreeSet<usize>,
     /// What the second planner's answers were.
     pub seen: Seen,
     pub arguments: Arguments,
+    pub left: Left,
 }
 
 /// What the calls of journals were given.
@@ -175,109 +250,133 @@ impl Arguments {
     }
 }
 
+/// What the sheets were that runs started from and left.
+#[derive(Clone, Debug, Default)]
+pub struct Left {
+    /// Places left blank at the start.
+    pub blank: usize,
+    /// Sheets that the run changed, other than by filling in places, and those
+    /// that it did not.
+    pub changed: usize,
+    pub kept: usize,
+    /// Sheets left without a batch and with 200.
+    pub empty: usize,
+    pub full: usize,
+    /// Batches left with a list that does not ascend, and on another instrument
+    /// than the first listed.
+    pub unordered: usize,
+    pub elsewhere: usize,
+}
+
+impl Left {
+    fn sheet(&mut self, file: &[u8], sheet: &Sheet, written: &[u8]) {
+        self.blank += gen::blank_places(file);
+        if written == gen::with_places(file) {
+            self.kept += 1;
+        } else {
+            self.changed += 1;
+        }
+        self.empty += sheet.batches().is_empty() as usize;
+        self.full += (sheet.batches().len() == Sheet::BATCHES) as usize;
+        for batch in sheet.batches() {
+            self.unordered += !batch.list.is_sorted() as usize;
+            self.elsewhere += (batch.place != batch.list[0]) as usize;
+        }
+    }
+
+    fn add(&mut self, other: &Left) {
+        self.blank += other.blank;
+        self.changed += other.changed;
+        self.kept += other.kept;
+        self.empty += other.empty;
+        self.full += other.full;
+        self.unordered += other.unordered;
+        self.elsewhere += other.elsewhere;
+    }
+}
+
 impl Met {
     fn add(&mut self, other: Met) {
         self.pairs += other.pairs;
         for (ours, theirs) in self.calls.iter_mut().zip(other.calls) {
-            for (sum, count) in ours.iter_mut().zip(theirs) {
-                *sum += count;
+            for (ours, theirs) in ours.iter_mut().zip(theirs) {
+                for (sum, count) in ours.iter_mut().zip(theirs) {
+                    *sum += count;
+                }
             }
         }
         self.lines.extend(other.lines);
         self.seen.add(&other.seen);
         self.arguments.add(&other.arguments);
+        self.left.add(&other.left);
     }
 
     /// What a test prints of it.
     pub fn summary(&self) -> String {
-        let refusals = (0..self.calls.len()).filter(|&k| self.calls[k] != [0; 4]);
-        let calls: Vec<_> = refusals.map(|k| (k, self.calls[k])).collect();
+        let met = |calls: &Calls| {
+            let refusals = (0..calls.len()).filter(|&k| calls[k] != [0; 4]);
+            refusals.map(|k| (k, calls[k])).collect::<Vec<_>>()
+        };
+        let [ran, wrote] = self.calls.each_ref().map(met);
         let (pairs, lines) = (self.pairs, self.lines.len());
-        let mut text = format!("{pairs} sheets with journals, calls by refusal {calls:?}");
-        if lines > 0 {
-            write!(text, ", bad at {lines} lines").unwrap();
-        }
-        if self.seen.cases > 0 {
-            write!(text, "; {}; {:?}", self.seen.summary(), self.arguments).unwrap();
-        }
-        text
+        format!(
+            "{pairs} sheets with journals, runs by refusal {ran:?}, writings {wrote:?}, bad at \
+             {lines} lines; {:?}; {:?}; {:?}",
+            self.seen, self.arguments, self.left
+        )
     }
 }
 
-/// Spread work over two threads, each with a judge of its own: `work` gets the
+/// Spread work over two threads, each with judges of its own: `work` gets the
 /// number of a share, from 0 on.
-fn shared(shares: u64, work: impl Fn(u64, &mut Judge, &mut Met) + Sync) -> Met {
-    let next = AtomicU64::new(0);
-    let total = Mutex::new(Met::default());
-    thread::scope(|scope| {
-        for _ in 0..2 {
-            scope.spawn(|| {
-                let mut judge = Judge::new(run);
-                let mut met = Met::default();
-                loop {
-                    let share = next.fetch_add(1, Ordering::Relaxed);
-                    if share >= shares {
-                        break;
-                    }
-                    work(share, &mut judge, &mut met);
-                }
-                total.lock().unwrap().add(met);
-            });
-        }
+fn judged(shares: u64, work: impl Fn(u64, &mut Judges, &mut Met) + Sync) -> Met {
+    let start = || (Judges::default(), Met::default());
+    let states = shared(shares, start, |share, (judges, met)| {
+        work(share, judges, met)
     });
-    total.into_inner().unwrap()
+    let mut total = Met::default();
+    states.into_iter().for_each(|(_, met)| total.add(met));
+    total
 }
 
-/// Compare the runs of many shares, `make` giving those of each. A review and
-/// a trial at the total come after each run's calls, so that every place shows.
+/// Compare the runs of many shares, `make` giving those of each: the answers,
+/// and the sheet that the run leaves. One run in eight is made with all buffers,
+/// the others with one that is long enough.
 pub fn compare(shares: u64, make: impl Fn(u64) -> Vec<Case> + Sync) -> Met {
-    shared(shares, |share, judge, met| {
-        for (k, mut case) in make(share).into_iter().enumerate() {
+    judged(shares, |share, judges, met| {
+        for (k, case) in make(share).into_iter().enumerate() {
             let mut sheet = second::read(&case.sheet).expect("a sheet without a fault");
-            met.seen.cases += 1;
-            met.seen.sheet(&case.sheet);
             let mut text = Vec::new();
-            let mut make = |sheet: &mut Sheet, call: &Call| {
-                let answer = second::apply(sheet, call);
+            for call in &case.calls {
+                let answer = second::apply(&mut sheet, call);
                 met.seen.answer(call, &answer, sheet.instruments());
                 put_answer(&mut text, &answer);
-            };
-            case.calls.iter().for_each(|call| make(&mut sheet, call));
-            let last = shown(&sheet);
-            last.iter().for_each(|call| make(&mut sheet, call));
-            case.calls.extend(last);
+            }
             let journal = journal(&case.calls);
             assert_eq!(read(&journal).as_ref(), Ok(&case.calls), "the form itself");
             met.arguments
                 .calls(&case.calls, sheet.instruments(), text.len());
-            judge
-                .rooms(&case.sheet, &journal, &Due::Text(text), 1 + k % 99, met)
-                .unwrap_or_else(|fault| {
-                    let sheet = String::from_utf8_lossy(&case.sheet);
-                    let journal = String::from_utf8_lossy(&journal);
-                    panic!("share {share}, run {k}: {fault}\nsheet:\n{sheet}journal:\n{journal}")
-                });
+            let written = second::write(&sheet);
+            met.left.sheet(&case.sheet, &sheet, &written);
+            let spare = 1 + k % 99;
+            let rooms = match k % 8 {
+                7 => Rooms::All(spare),
+                1 | 4 => Rooms::Longer(spare),
+                _ => Rooms::Exact,
+            };
+            let dues = [text, written].map(Due::Text);
+            judges.rooms(&case.sheet, &journal, &dues, rooms, met);
         }
     })
 }
 
-/// Calls whose answers tell the loads and all places.
-fn shown(sheet: &Sheet) -> [Call; 2] {
-    let level = sheet.total() as u64;
-    [Call::Review, Call::Trial { level }]
-}
-
 /// Compare pairs of a sheet and a journal, both of any bytes.
 pub fn compare_bytes(shares: u64, make: impl Fn(u64) -> Vec<(Vec<u8>, Vec<u8>)> + Sync) -> Met {
-    shared(shares, |share, judge, met| {
+    judged(shares, |share, judges, met| {
         for (k, (sheet, journal)) in make(share).into_iter().enumerate() {
-            let due = answers_due(&sheet, &journal);
-            judge
-                .rooms(&sheet, &journal, &due, 1 + k % 2_999, met)
-                .unwrap_or_else(|fault| {
-                    let sheet = String::from_utf8_lossy(&sheet);
-                    panic!("share {share}, pair {k}: {fault}\nsheet:\n{sheet}journal: {journal:?}")
-                });
+            let dues = dues(&sheet, &journal);
+            let rooms = Rooms::All(1 + (share as usize + k) % 2_999);
+            judges.rooms(&sheet, &journal, &dues, rooms, met);
         }
     })
 }

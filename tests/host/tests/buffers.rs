@@ -3,20 +3,13 @@
 
 use std::hint::black_box;
 
-use against::cases;
-use host::check::{listing_due, Judge, Met, LEAST};
+use host::cases;
+use host::check::{listing_due, Calls, Judge, Room, LEAST};
 use host::kinds::{Kind, Lengths, Lists, Places};
 use host::listing::MOST;
-use host::{plan, Hosted};
+use host::{plan, Hosted, SHEET};
 use second::gen;
 use second::rng::Rng;
-
-/// The sheet of the paper's first case.
-const SHEET: &[u8] = b"     2     3
-    30     1     2     1     2
-    20     1     1     1
-    10     1     2     1     2
-";
 
 /// From none to three bytes more than the listing has.
 #[test]
@@ -89,7 +82,7 @@ fn bytes_beside_the_sheet() {
     let mut refusals = [0; 10];
     for round in 0..40 {
         let mut file = match round {
-            0 => SHEET.to_vec(),
+            0 => SHEET.as_bytes().to_vec(),
             _ => gen::draft(&mut rng, gen::SMALL).render(),
         };
         let own = file.len();
@@ -256,11 +249,11 @@ const CHEATS: [Cheat; 17] = [
 /// Each is caught on six sheets, and the honest planner is not.
 #[test]
 fn cheats_are_caught() {
-    let bad: Vec<u8> = SHEET.iter().copied().filter(|&b| b != b'3').collect();
-    let mut place = SHEET.to_vec();
+    let bad: Vec<u8> = SHEET.bytes().filter(|&b| b != b'3').collect();
+    let mut place = SHEET.as_bytes().to_vec();
     place[13 + 11] = b'3';
     let sheets: [&[u8]; 6] = [
-        SHEET,
+        SHEET.as_bytes(),
         &bad,
         &place,
         b"     1     0\n",
@@ -270,7 +263,8 @@ fn cheats_are_caught() {
     let verdict = |planner: fn(&[u8], &mut [u8]) -> Hosted| -> Result<(), String> {
         let mut judge = Judge::new(planner);
         for sheet in sheets {
-            judge.rooms(sheet, &listing_due(sheet), &mut Met::default())?;
+            let due = listing_due(sheet);
+            judge.rooms(sheet, &due, &Room::ALL, &mut Calls::default())?;
         }
         Ok(())
     };

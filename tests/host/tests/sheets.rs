@@ -1,40 +1,21 @@
-//! Sheets good, bad and hard, each with every kind of buffer: the exported
-//! call beside the second planner.
+//! Sheets good, bad and hard, each with every kind of buffer: planned and
+//! rewritten beside the second planner.
 
 use std::sync::atomic::{AtomicUsize, Ordering};
 
-use against::{cases, Case};
+use host::cases::{self, Case};
 use host::check::{compare, Judge, Met};
 use host::due::Due;
 use host::kinds::Kind;
 use host::listing::MOST;
-use host::{plan, Hosted};
+use host::{plan, rewrite, text, SHEET};
 use second::rng::Rng;
 use second::{gen, trial, Draft, Sheet, Verdict};
 
 /// What a sheet's listing is, or its refusal and line.
 fn answer(sheet: &str) -> Result<String, (u32, usize)> {
-    let mut listing = vec![0; MOST];
-    let Hosted {
-        refusal,
-        line,
-        length,
-    } = plan(sheet.as_bytes(), &mut listing);
-    if refusal != 0 {
-        assert_eq!(length, 0);
-        return Err((refusal, line));
-    }
-    assert_eq!(line, 0);
-    listing.truncate(length);
-    Ok(String::from_utf8(listing).unwrap())
+    text(|listing| plan(sheet.as_bytes(), listing))
 }
-
-/// The sheet of the paper's first case.
-const SHEET: &str = "     2     3
-    30     1     2     1     2
-    20     1     1     1
-    10     1     2     1     2
-";
 
 #[test]
 fn known_listings() {
@@ -98,6 +79,8 @@ fn known_refusals() {
     ] {
         let start = &sheet[..sheet.len().min(100)];
         assert_eq!(answer(&sheet), Err(refusal), "{start}");
+        let written = text(|written| rewrite(sheet.as_bytes(), written));
+        assert_eq!(written, Err(refusal), "{start}");
     }
 }
 
@@ -136,11 +119,17 @@ fn every_field_blank() {
     assert!(taken >= 1_000 && refused >= 10_000);
 }
 
-/// Every kind of buffer was met by good sheets: the first four are too short.
-fn rooms_of_good_sheets(met: &Met) {
-    let each = met.plans.count;
-    assert_eq!(met.calls[0], [0, 0, 0, 0, each, each, each, each]);
-    assert_eq!(met.calls[9], [each, each, each, each, 0, 0, 0, 0]);
+/// All good sheets met the buffer that just fits, and so many at least met every
+/// kind, of which the first four are too short.
+fn rooms_of_good_sheets(met: &Met, least: usize) {
+    let all = met.plans.count;
+    for calls in [met.planned, met.rewritten] {
+        let some = calls[9][0];
+        assert_eq!(calls[0], [0, 0, 0, 0, all, some, some, some]);
+        assert_eq!(calls[9], [some, some, some, some, 0, 0, 0, 0]);
+        assert!(some >= least, "{some} of {all}");
+    }
+    assert_eq!(met.same + met.filled, all);
 }
 
 #[test]
@@ -162,7 +151,7 @@ fn sound_sheets() {
     let plans = &met.plans;
     assert_eq!(plans.count, met.sheets);
     assert!(met.sheets >= 25_000);
-    rooms_of_good_sheets(&met);
+    rooms_of_good_sheets(&met, 12_500);
     assert!(plans.empty >= 1_000 && plans.small >= 10_000);
     assert!(plans.middle >= 2_000 && plans.largest >= 500);
     assert!(plans.given >= 100_000 && plans.open >= 100_000);
@@ -171,6 +160,7 @@ fn sound_sheets() {
     assert!(plans.shown >= 1_000);
     assert!(plans.worked >= 1_000 && plans.moved >= 1_000);
     assert!(plans.steps >= 1_000 && plans.moves >= 10);
+    assert!(met.same >= 5_000 && met.filled >= 5_000);
 }
 
 #[test]
@@ -183,17 +173,24 @@ fn damaged_sheets() {
     });
     println!("{}", met.summary());
     assert!(met.sheets >= 40_000);
-    rooms_of_good_sheets(&met);
+    rooms_of_good_sheets(&met, 1_000);
     // Some damage leaves a good sheet, with other numbers in it.
     assert!(met.plans.count >= 500 && met.plans.blank >= 1_000);
+    assert!(met.same >= 200 && met.filled >= 200);
     for number in 1..=5 {
-        for count in met.calls[number] {
+        assert_eq!(met.planned[number], met.rewritten[number]);
+        for count in met.planned[number] {
             assert!(count >= 500, "refusal {number}");
         }
     }
     for number in [1, 3, 4, 5] {
         assert!(met.lines[number].len() >= 100, "lines of refusal {number}");
     }
+    // A blank place is taken, and hides no other fault of its line.
+    for number in [1, 3, 4] {
+        assert!(met.at_blank[number] >= 300, "refusal {number} at a blank");
+    }
+    assert_eq!(met.at_blank[5], 0);
 }
 
 /// The most steps of the trials that planning makes; all but the kept one's
@@ -233,8 +230,8 @@ fn hard_sheets() {
     let long = long.into_inner();
     println!("{}, {long} long", met.summary());
     assert_eq!((met.sheets, met.plans.count), (12, 8));
-    rooms_of_good_sheets(&met);
-    assert_eq!(met.calls[1], [4; 8]);
+    rooms_of_good_sheets(&met, 4);
+    assert_eq!((met.planned[1], met.rewritten[1]), ([4; 8], [4; 8]));
     assert!(met.plans.largest >= 4 && met.plans.moved >= 4);
     assert!(long >= 2);
 }

@@ -173,6 +173,18 @@ pub fn blank_places(file: &[u8]) -> usize {
     places(file).into_iter().filter(blank).count()
 }
 
+/// An accepted file with every place that is 0 or blank filled in: it gets the
+/// columns of the first listed instrument, which stand two fields further on.
+pub fn with_places(file: &[u8]) -> Vec<u8> {
+    let mut filled = file.to_vec();
+    for at in places(file) {
+        if matches!(&file[at..at + 6], b"     0" | b"      ") {
+            filled.copy_within(at + 12..at + 18, at);
+        }
+    }
+    filled
+}
+
 fn edge_or(rng: &mut Rng, usual: u64) -> u64 {
     match rng.below(12) {
         0 => u64::MAX - rng.below(3),

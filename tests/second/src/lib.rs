@@ -16,6 +16,7 @@ pub mod run;
 pub mod settle;
 pub mod sheet;
 pub mod trial;
+pub mod write;
 
 pub use draft::{Draft, Line};
 pub use listing::{host, program, HostAnswer};
@@ -25,3 +26,4 @@ pub use run::{apply, run, Answer, Call};
 pub use settle::{review, settle, Review};
 pub use sheet::{Batch, Refusal, Sheet};
 pub use trial::{trial, Trial, Verdict};
+pub use write::write;

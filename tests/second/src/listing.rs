@@ -8,7 +8,7 @@ use crate::read::read;
 use crate::sheet::{Refusal, Sheet};
 
 /// A line of numbers, six columns each.
-fn put_line(text: &mut String, numbers: &[u32]) {
+pub(crate) fn put_line(text: &mut String, numbers: &[u32]) {
     for number in numbers {
         write!(text, "{number:>6}").unwrap();
     }

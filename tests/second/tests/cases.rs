@@ -305,3 +305,44 @@ fn limits_of_an_empty_sheet() {
         assert_eq!(Sheet::empty(m).unwrap().instruments(), m);
     }
 }
+
+#[test]
+fn written_sheets() {
+    let written = |sheet: &Sheet| String::from_utf8(write(sheet)).unwrap();
+    assert_eq!(write(&read(P1).unwrap()), P1);
+    assert_eq!(written(&Sheet::empty(24).unwrap()), "    24     0\n");
+    // Places not given are the first listed, and lists keep their order.
+    let file = b"    12     4
+     5           2    11     2
+    40     0     3     3     2     1
+     7     2     2    12     2
+  1440     9     1     9
+";
+    let mut sheet = read(file).unwrap();
+    let text = "    12     4
+     5    11     2    11     2
+    40     3     3     3     2     1
+     7     2     2    12     2
+  1440     9     1     9
+";
+    assert_eq!(written(&sheet), text);
+    sheet.shift(2, 1).unwrap();
+    sheet.withdraw(1).unwrap();
+    sheet.requalify(3, &[10, 8]).unwrap();
+    sheet.add(100, &[6, 12]).unwrap();
+    let text = "    12     4
+    40     1     3     3     2     1
+     7     2     2    12     2
+  1440    10     2    10     8
+   100     6     2     6    12
+";
+    assert_eq!(written(&sheet), text);
+    let mut sheet = read(P1).unwrap();
+    plan(&mut sheet);
+    let text = "     2     3
+    30     2     2     1     2
+    20     1     1     1
+    10     1     2     1     2
+";
+    assert_eq!(written(&sheet), text);
+}

@@ -10,3 +10,4 @@ mod runs;
 mod settling;
 mod trials;
 mod watch;
+mod writing;

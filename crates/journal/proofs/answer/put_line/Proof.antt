@@ -5,8 +5,8 @@ use mathlib.Core.List.{[], _∷_}
 use native.Mathlib.Omega.{arith}
 use lib.ListN.{length}
 use Rattle.rules.specs.Render.{fields}
-use Rattle.listing.proofs.Pasted.{wrote-one, wrote-more}
-use Rattle.listing.proofs.Fields.{fields-length}
+use Rattle.text.proofs.Pasted.{wrote-one, wrote-more}
+use Rattle.theory.proofs.Fields.{fields-length}
 use borrow.Author.Needs.{needs}
 use Rattle.journal.proofs.answer.put_line.Statement.{statement}
 use Rattle.journal.proofs.answer.put_line.Tie as tie

@@ -6,8 +6,8 @@ use lib.ListN.{length, take}
 use lib.Seq.{paste, take-length}
 use borrow.Author.Needs.{needs}
 use Rattle.rules.specs.Render.{fields}
-use Rattle.listing.proofs.Pasted.{Wrote, wrote-none, wrote-length}
-use Rattle.listing.proofs.Growing.{numbers-more}
+use Rattle.text.proofs.Pasted.{Wrote, wrote-none, wrote-length}
+use Rattle.text.proofs.Numbers.{numbers-more}
 use Rattle.journal.proofs.Small.{small-at}
 use Rattle.journal.proofs.answer.put_numbers.Statement.{statement}
 use Rattle.journal.proofs.answer.put_numbers.Tie as tie

@@ -7,8 +7,8 @@ use lib.Seq.{length-take-le, take-all}
 use borrow.Author.Needs.{needs}
 use Rattle.rules.specs.Render.{columns, fields, line}
 use Rattle.theory.proofs.Field.{columns-length}
-use Rattle.listing.proofs.Pasted.{wrote-one, wrote-more}
-use Rattle.listing.proofs.Fields.{fields-length, line-length}
+use Rattle.text.proofs.Pasted.{wrote-one, wrote-more}
+use Rattle.theory.proofs.Fields.{fields-length, line-length}
 use Rattle.journal.proofs.answer.put_plan.Statement.{statement}
 use Rattle.journal.proofs.answer.put_plan.Tie as tie
 

@@ -1,7 +1,7 @@
 -- The numbers of a refusal fit its line, and the answers their buffer.
 use native.Mathlib.Omega.{arith}
 use Rattle.journal.proofs.Printing.{Modest, ran-modest, answers-printed, refusal-printed}
-use Rattle.listing.specs.Host.{hostedOf}
+use Rattle.text.specs.Answer.{hostedOf}
 use lib.ListN.{length}
 use borrow.Author.Needs.{needs}
 use Rattle.journal.proofs.print.print.Statement.{statement}
@@ -28,8 +28,8 @@ returns c =
 cast-line : tie.Need-cast-line
 cast-line c = omega (arith, told (c .before .before .before .before) .place)
 
-put-refusal-requires : tie.Need-put-refusal-requires
-put-refusal-requires c κs =
+put-pair-requires : tie.Need-put-pair-requires
+put-pair-requires c κs =
     let t = told (c .before .before .before .before .before) in
     (omega arith, t .number, t .place)
 
@@ -39,7 +39,7 @@ same-length-2 c = search needs
 returns-2 : tie.Need-returns-2
 returns-2 c =
     let a = c .before .before .before .before .before .before .before .before .before .before .before .before .before .args in
-    (omega (arith, c .before .before .before .before .before .before .before .before .before .before .before .before .before .pre .0), refusal-printed (a .sheet .now) (a .journal .now) (a .out .now) (c .before .before .before .before .before .before .before .before .before .before .before .before .before .pre .1) _ _ (c .before .before .before .before .before .before .before .before .run-into .ensures) (c .before .before .before .before .before .if1 .left) _ (c .before .before .put-refusal .ensures))
+    (omega (arith, c .before .before .before .before .before .before .before .before .before .before .before .before .before .pre .0), refusal-printed (a .sheet .now) (a .journal .now) (a .out .now) (c .before .before .before .before .before .before .before .before .before .before .before .before .before .pre .1) _ _ (c .before .before .before .before .before .before .before .before .run-into .ensures) (c .before .before .before .before .before .if1 .left) _ (c .before .before .put-pair .ensures))
 
 pub print-spec : {M : Type 1} → statement M
 print-spec =
@@ -49,6 +49,6 @@ print-spec =
     same-length
     returns
     cast-line
-    put-refusal-requires
+    put-pair-requires
     same-length-2
     returns-2)

@@ -1,50 +1,39 @@
--- A fault, a buffer that is too short, the answers.
+-- A buffer that is too short, or the answers.
 use mathlib.Core.Path.{sym, _∙_}
-use borrow.Author.Tests.{leb-true, not-true, not-false}
-use Rattle.sheet.specs.Represent.{bookOf}
-use Rattle.journal.proofs.Hosting.{spells, on-fault, on-short, on-long}
+use borrow.Author.Tests.{leb-true, leb-false, not-true, not-false}
+use Rattle.text.proofs.Answer.{into-short, into-long}
 use borrow.Author.Needs.{needs}
 use Rattle.journal.proofs.run.run_on.Statement.{statement}
 use Rattle.journal.proofs.run.run_on.Tie as tie
 
-fault-line-requires : tie.Need-fault-line-requires
-fault-line-requires c κs = search needs
+fits-requires : tie.Need-fits-requires
+fits-requires c κs = c .before .before .pre
 
 returns : tie.Need-returns
 returns c =
-    let a = c .before .before .before .before .args in
-    on-fault (bookOf (a .sheet)) (a .journal .now) (a .out .now) _ (c .before .fault-line .ensures) (c .if1 .taken)
-
-fits-requires : tie.Need-fits-requires
-fits-requires c κs = (c .before .before .before .before .pre, spells (c .before .before .before .before .args .journal .now) (sym (c .before .fault-line .ensures) ∙ c .if1 .left))
-
-returns-2 : tie.Need-returns-2
-returns-2 c =
-    let a = c .before .before .before .before .before .before .args in
-    on-short (bookOf (a .sheet)) (a .journal .now) (a .out .now) (spells (c .before .before .before .before .before .before .args .journal .now) (sym (c .before .before .before .fault-line .ensures) ∙ c .before .before .if1 .left)) (sym (c .before .fits2 .ensures) ∙ not-true _ (c .if2 .taken))
+    into-short _ (c .before .before .before .before .args .out .now) (leb-false _ _ (sym (c .before .fits2 .ensures) ∙ not-true _ (c .if1 .taken)))
 
 write-answers-requires : tie.Need-write-answers-requires
 write-answers-requires c κs =
-    let t = leb-true _ _ (sym (c .before .before .fits2 .ensures) ∙ not-false _ (c .before .if2 .left)) in
-    (c .before .before .before .before .before .before .before .pre, spells (c .before .before .before .before .before .before .before .args .journal .now) (sym (c .before .before .before .before .fault-line .ensures) ∙ c .before .before .before .if1 .left), t)
+    let p = c .before .before .before .before .before .pre in
+    (p .0, p .1, leb-true _ _ (sym (c .before .before .fits2 .ensures) ∙ not-false _ (c .before .if1 .left)))
 
 same-length : tie.Need-same-length
 same-length c = search needs
 
-returns-3 : tie.Need-returns-3
-returns-3 c =
-    let a = c .before .before .before .before .before .before .before .before .before .before .args in
-    on-long (bookOf (a .sheet)) (a .journal .now) (a .out .now) (spells (c .before .before .before .before .before .before .before .before .before .before .args .journal .now) (sym (c .before .before .before .before .before .before .before .fault-line .ensures) ∙ c .before .before .before .before .before .before .if1 .left)) (sym (c .before .before .before .before .before .fits2 .ensures) ∙ not-false _ (c .before .before .before .before .if2 .left)) _ _
-    (c .before .before .write-answers .ensures .0) (c .before .before .write-answers .ensures .1)
+returns-2 : tie.Need-returns-2
+returns-2 c =
+    let w = c .before .before in
+    let i = w .before .before in
+    into-long _ (i .before .before .before .before .args .out .now) _ _ (leb-true _ _ (sym (i .before .fits2 .ensures) ∙ not-false _ (i .if1 .left)))
+    (w .write-answers .ensures .0) (w .write-answers .ensures .1)
 
 pub run-on-spec : {M : Type 1} → statement M
 run-on-spec =
     tie.close
     (tie.spec
-    fault-line-requires
-    returns
     fits-requires
-    returns-2
+    returns
     write-answers-requires
     same-length
-    returns-3)
+    returns-2)

@@ -4,7 +4,7 @@ use mathlib.Core.Path.{_≡_, refl, sym, ap}
 use native.Mathlib.Omega.{arith}
 use lib.ListN.{length}
 use Rattle.sheet.specs.Represent.{bookOf}
-use Rattle.listing.proofs.Pasted.{Wrote, wrote-length}
+use Rattle.text.proofs.Pasted.{Wrote, wrote-length}
 use Rattle.journal.proofs.Going.{Going, going-start, start-wrote, Turn, next-line, turn-few, Answered, answered, going-on, turn-room, turn-wrote, end-wrote}
 use Rattle.journal.proofs.run.write_answers.Statement.{statement}
 use Rattle.journal.proofs.run.write_answers.Tie as tie

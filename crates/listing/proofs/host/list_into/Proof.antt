@@ -1,8 +1,9 @@
 -- The plan's numbers fit their columns, and the text from the arrays is the listing of the sheet's book.
+use mathlib.Core.Path.{sym}
 use native.Mathlib.Omega.{arith}
 use Rattle.sheet.specs.Represent.{bookOf}
 use Rattle.listing.proofs.Planned.{ListedPlan, listed-plan, listed-length, listed-text}
-use Rattle.listing.proofs.Hosting.{into-short, into-long}
+use Rattle.listing.proofs.Hosting.{listed-short, listed-long}
 use borrow.Author.Needs.{needs}
 use Rattle.listing.proofs.host.list_into.Statement.{statement}
 use Rattle.listing.proofs.host.list_into.Tie as tie
@@ -29,7 +30,7 @@ returns c =
     let at = c .before .before .before in
     let a = planned at in
     let l = listed-length _ (at .before .before .before .pre) _ _ a in
-    rw (c .code .ensures) (into-short (bookOf (at .before .before .before .args .sheet)) _ (omega (arith, l)))
+    rw (c .code .ensures) (listed-short (bookOf (at .before .before .before .args .sheet)) _ (omega (arith, l)))
 
 minutes-requires : tie.Need-minutes-requires
 minutes-requires c κs = search needs
@@ -37,24 +38,30 @@ minutes-requires c κs = search needs
 places-requires : tie.Need-places-requires
 places-requires c κs = let a = planned (c .before .before .before .before) in search needs
 
+array-share-prefix-group : tie.Need-array-share-prefix-group
+array-share-prefix-group c = planned (c .before .before .before .before .before .before .before) .whole
+
 slice-aggregate-put-listing : tie.Need-slice-aggregate-put-listing
-slice-aggregate-put-listing c = search needs
+slice-aggregate-put-listing c = sym (planned (c .before .before .before .before .before .before .before .before) .long)
 
 slice-aggregate-put-listing-2 : tie.Need-slice-aggregate-put-listing-2
 slice-aggregate-put-listing-2 c = search needs
 
+slice-aggregate-put-listing-3 : tie.Need-slice-aggregate-put-listing-3
+slice-aggregate-put-listing-3 c = search needs
+
 put-listing-requires : tie.Need-put-listing-requires
 put-listing-requires c κs =
-    let a = planned (c .before .before .before .before .before .before .before .before .before) in
+    let a = planned (c .before .before .before .before .before .before .before .before .before .before) in
     let f = a .inColumns in (
-      omega arith,
+      omega (arith, a .long),
       omega (arith, a .makespan, f .makespan),
       omega (arith, a .bound, f .bound),
       omega (arith, a .level, f .level),
       omega (arith, a .lifts, f .lifts),
       omega (arith, a .pushes, f .pushes),
       omega (arith, a .moves, f .moves),
-      omega (arith, a .size, f .few),
+      omega (arith, a .long, a .size, f .few),
       a .room,
       omega (arith, a .room),
       omega (arith, a .room),
@@ -65,17 +72,18 @@ same-length c = search needs
 
 returns-2 : tie.Need-returns-2
 returns-2 c =
-    let at = c .before .before .before .before .before .before .before .before .before .before .before .before in
+    let put = c .before .before in
+    let group = put .before .before .before .before .before in
+    let len = group .before .before .before .before .before in
+    let at = len .before in
     let v = at .before .before .before .pre in
     let a = planned at in
     let l = listed-length _ v _ _ a in
-    let t =
-    listed-text _ v _ _ _ _ a (c .before .before .before .before .before .before .before .before .before .minutes .ensures)
-    (c .before .before .before .before .before .before .before .places .ensures) in
-    let i = c .before .before .before .before .before .before .before .before .before .before .if1 in
-    let d = c .before .before .before .before .before .before .before .before .before .before .before .listing-length .ensures in
-    into-long (bookOf (at .before .before .before .args .sheet)) _ _ _ _ (omega (arith, l)) t (c .before .before .put-listing .ensures .0)
-    (c .before .before .put-listing .ensures .1)
+    let i = group .before .before .before .before .if1 in
+    let d = len .listing-length .ensures in
+    let t = listed-text _ v _ _ _ _ a (group .before .before .before .minutes .ensures) (group .before .places .ensures) in
+    listed-long (bookOf (at .before .before .before .args .sheet)) _ _ _ _ (omega (arith, l)) t (put .put-listing .ensures .0)
+    (put .put-listing .ensures .1)
 
 pub list-into-spec : {M : Type 1} → statement M
 list-into-spec =
@@ -88,8 +96,10 @@ list-into-spec =
     returns
     minutes-requires
     places-requires
+    array-share-prefix-group
     slice-aggregate-put-listing
     slice-aggregate-put-listing-2
+    slice-aggregate-put-listing-3
     put-listing-requires
     same-length
     returns-2)

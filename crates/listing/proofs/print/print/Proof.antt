@@ -26,18 +26,18 @@ returns c =
     let l = is-listed _ _ _ _ (c .before .before .before .plan-into .ensures) (start .pre) (omega arith) in
     (l .count, (omega (arith, l .count, program-short (start .args .sheet .now)), l .text))
 
-cast-put-refusal : tie.Need-cast-put-refusal
-cast-put-refusal c = let u = unlisted (c .before .before) in omega arith
+cast-put-pair : tie.Need-cast-put-pair
+cast-put-pair c = let u = unlisted (c .before .before) in omega arith
 
-put-refusal-requires : tie.Need-put-refusal-requires
-put-refusal-requires c κs = let u = unlisted (c .before .before) in (omega arith, omega arith, omega arith)
+put-pair-requires : tie.Need-put-pair-requires
+put-pair-requires c κs = let u = unlisted (c .before .before) in (omega arith, omega arith, omega arith)
 
 same-length-2 : tie.Need-same-length-2
 same-length-2 c = search needs
 
 returns-2 : tie.Need-returns-2
 returns-2 c =
-    let r = row-printed _ _ _ _ _ (unlisted (c .before .before .before .before .before)) (c .before .before .put-refusal .ensures) in
+    let r = row-printed _ _ _ _ _ (unlisted (c .before .before .before .before .before)) (c .before .before .put-pair .ensures) in
     (r .0, (omega arith, r .1))
 
 pub print-spec : {M : Type 1} → statement M
@@ -47,7 +47,7 @@ print-spec =
     plan-into-requires
     same-length
     returns
-    cast-put-refusal
-    put-refusal-requires
+    cast-put-pair
+    put-pair-requires
     same-length-2
     returns-2)

@@ -1,0 +1,3 @@
+// Settling over arrays: which job improves by moving alone, and moves until none does.
+pub mod improve;
+pub mod settle;

@@ -1,0 +1,4 @@
+pub mod Pasted
+pub mod Columns
+pub mod Numbers
+pub mod Answer

@@ -1,0 +1,452 @@
+//! Calls with a journal that are right but for one thing, and must be caught.
+
+use host::journal::read;
+use host::runs::{dues, Calls, Judge, Rooms, Runner, BAD_JOURNAL, BOTH};
+use host::{run, write, Hosted, SHEET};
+use second::{gen, Answer, Call, Draft};
+
+/// What it does wrong with the call that it is given.
+type Cheat = (&'static str, fn(Runner, &[u8], &[u8], &mut [u8]) -> Hosted);
+
+const SHORT: Hosted = Hosted {
+    refusal: 9,
+    line: 0,
+    length: 0,
+};
+
+/// Wrong for either call.
+const EITHER: [Cheat; 23] = [
+    ("writes past the text", |call, sheet, journal, text| {
+        let made = call(sheet, journal, text);
+        if let Some(next) = text.get_mut(made.length) {
+            if made.refusal == 0 {
+                *next = 0;
+            }
+        }
+        made
+    }),
+    (
+        "clears the buffer's last byte",
+        |call, sheet, journal, text| {
+            if let Some(last) = text.last_mut() {
+                *last = 0;
+            }
+            call(sheet, journal, text)
+        },
+    ),
+    ("writes to a short buffer", |call, sheet, journal, text| {
+        let made = call(sheet, journal, text);
+        if made.refusal == 9 {
+            text.fill(b' ');
+        }
+        made
+    }),
+    ("writes for a bad sheet", |call, sheet, journal, text| {
+        let made = call(sheet, journal, text);
+        if (1..=5).contains(&made.refusal) {
+            text.fill(b' ');
+        }
+        made
+    }),
+    ("writes for a bad journal", |call, sheet, journal, text| {
+        let made = call(sheet, journal, text);
+        if made.refusal == BAD_JOURNAL {
+            text.fill(b' ');
+        }
+        made
+    }),
+    ("judges the buffer first", |call, sheet, journal, text| {
+        let made = call(sheet, journal, text);
+        if text.is_empty() && !journal.is_empty() {
+            return SHORT;
+        }
+        made
+    }),
+    ("judges the journal first", |call, sheet, journal, text| {
+        let made = call(sheet, journal, text);
+        match read(journal) {
+            Err(line) => Hosted {
+                refusal: BAD_JOURNAL,
+                line,
+                length: 0,
+            },
+            Ok(_) => made,
+        }
+    }),
+    ("wants one byte more", |call, sheet, journal, text| {
+        let before = text.to_vec();
+        let made = call(sheet, journal, text);
+        if made.length == before.len() && made.refusal == 0 {
+            text.copy_from_slice(&before);
+            return SHORT;
+        }
+        made
+    }),
+    ("fills what there is", |call, sheet, journal, text| {
+        let made = call(sheet, journal, text);
+        if made.refusal == 9 {
+            return Hosted {
+                refusal: 0,
+                length: text.len(),
+                ..made
+            };
+        }
+        made
+    }),
+    ("gives a line with 9", |call, sheet, journal, text| {
+        let made = call(sheet, journal, text);
+        let line = made.line + (made.refusal == 9) as usize;
+        Hosted { line, ..made }
+    }),
+    ("gives a line with a text", |call, sheet, journal, text| {
+        let made = call(sheet, journal, text);
+        let line = made.line + (made.refusal == 0) as usize;
+        Hosted { line, ..made }
+    }),
+    (
+        "counts a journal's lines from 0",
+        |call, sheet, journal, text| {
+            let made = call(sheet, journal, text);
+            let line = made.line - (made.refusal == BAD_JOURNAL) as usize;
+            Hosted { line, ..made }
+        },
+    ),
+    ("gives the last line", |call, sheet, journal, text| {
+        let made = call(sheet, journal, text);
+        let lines = journal.split_inclusive(|&b| b == b'\n').count();
+        let line = if made.refusal == BAD_JOURNAL {
+            lines
+        } else {
+            made.line
+        };
+        Hosted { line, ..made }
+    }),
+    ("takes 19 for 1", |call, sheet, journal, text| {
+        let made = call(sheet, journal, text);
+        let refusal = if made.refusal == BAD_JOURNAL {
+            1
+        } else {
+            made.refusal
+        };
+        Hosted { refusal, ..made }
+    }),
+    (
+        "gives a length with a refusal",
+        |call, sheet, journal, text| {
+            let made = call(sheet, journal, text);
+            let length = made.length.max((made.refusal != 0) as usize);
+            Hosted { length, ..made }
+        },
+    ),
+    ("leaves out the last LF", |call, sheet, journal, text| {
+        let mut made = call(sheet, journal, text);
+        made.length = made.length.saturating_sub(1);
+        made
+    }),
+    ("refuses the empty journal", |call, sheet, journal, text| {
+        let made = call(sheet, journal, text);
+        if journal.is_empty() && made.refusal == 0 {
+            return Hosted {
+                refusal: BAD_JOURNAL,
+                line: 1,
+                length: 0,
+            };
+        }
+        made
+    }),
+    (
+        "takes a journal without its last LF",
+        |call, sheet, journal, text| {
+            let mut journal = journal.to_vec();
+            if journal.last().is_some_and(|&b| b != b'\n') {
+                journal.push(b'\n');
+            }
+            call(sheet, &journal, text)
+        },
+    ),
+    ("takes blanks for 0", |call, sheet, journal, text| {
+        let mut journal = journal.to_vec();
+        for at in gen::fields(&journal) {
+            if journal[at..at + 6] == *b"      " {
+                journal[at + 5] = b'0';
+            }
+        }
+        call(sheet, &journal, text)
+    }),
+    (
+        "makes the calls before a bad line",
+        |call, sheet, journal, text| {
+            let good = match read(journal) {
+                Ok(_) => journal.len(),
+                Err(line) => {
+                    let lines = journal.split_inclusive(|&b| b == b'\n');
+                    lines.take(line - 1).map(<[u8]>::len).sum()
+                }
+            };
+            call(sheet, &journal[..good], text)
+        },
+    ),
+    (
+        "takes a bad journal for an empty one",
+        |call, sheet, journal, text| match read(journal) {
+            Ok(_) => call(sheet, journal, text),
+            Err(_) => call(sheet, &[], text),
+        },
+    ),
+    ("makes the first call only", |call, sheet, journal, text| {
+        let first = journal.split_inclusive(|&b| b == b'\n').next();
+        match read(journal) {
+            Ok(_) => call(sheet, first.unwrap_or(&[]), text),
+            Err(_) => call(sheet, journal, text),
+        }
+    }),
+    ("writes another number", |call, sheet, journal, text| {
+        let made = call(sheet, journal, text);
+        if made.length > 1 {
+            text[made.length - 2] ^= 1;
+        }
+        made
+    }),
+];
+
+const ANSWERS: [Cheat; 2] = [
+    (
+        "makes each call on the first sheet",
+        |call, sheet, journal, text| {
+            let whole = call(sheet, journal, text);
+            if whole.refusal == 0 {
+                let mut at = 0;
+                for line in journal.split_inclusive(|&b| b == b'\n') {
+                    at += call(sheet, line, &mut text[at..]).length;
+                }
+            }
+            whole
+        },
+    ),
+    ("writes the sheet", |_, sheet, journal, text| {
+        write(sheet, journal, text)
+    }),
+];
+
+/// What is written, changed by way of what it says, to as many bytes.
+fn changed(made: Hosted, text: &mut [u8], change: impl FnOnce(&mut Draft)) -> Hosted {
+    if made.refusal == 0 {
+        let text = &mut text[..made.length];
+        let mut draft = Draft::from(&second::read(text).expect("a sheet"));
+        change(&mut draft);
+        text.copy_from_slice(&draft.render());
+    }
+    made
+}
+
+/// The journal without the calls that are not to be made; one that is not of
+/// the form stays as it is.
+fn without(sheet: &[u8], journal: &[u8], mut made: impl FnMut(&Call, &Answer) -> bool) -> Vec<u8> {
+    let (Ok(mut sheet), Ok(calls)) = (second::read(sheet), read(journal)) else {
+        return journal.to_vec();
+    };
+    let lines = journal.split_inclusive(|&b| b == b'\n').zip(calls);
+    let kept = lines.filter(|(_, call)| made(call, &second::apply(&mut sheet, call)));
+    kept.flat_map(|(line, _)| line.to_vec()).collect()
+}
+
+const WRITTEN: [Cheat; 17] = [
+    ("writes the answers", |_, sheet, journal, text| {
+        run(sheet, journal, text)
+    }),
+    (
+        "gives back the file of an empty journal",
+        |call, sheet, journal, text| {
+            let made = call(sheet, journal, text);
+            if made.refusal == 0 && journal.is_empty() {
+                text[..made.length].copy_from_slice(sheet);
+            }
+            made
+        },
+    ),
+    ("writes 0 for a place", |call, sheet, journal, text| {
+        changed(call(sheet, journal, text), text, |draft| {
+            draft.lines.iter_mut().for_each(|line| line.place = Some(0));
+        })
+    }),
+    ("leaves a place blank", |call, sheet, journal, text| {
+        changed(call(sheet, journal, text), text, |draft| {
+            draft.lines.iter_mut().for_each(|line| line.place = None);
+        })
+    }),
+    (
+        "leaves the place of the first listed blank",
+        |call, sheet, journal, text| {
+            changed(call(sheet, journal, text), text, |draft| {
+                for line in &mut draft.lines {
+                    line.place = line.place.filter(|&place| place != line.list[0]);
+                }
+            })
+        },
+    ),
+    (
+        "writes the first listed for a place",
+        |call, sheet, journal, text| {
+            changed(call(sheet, journal, text), text, |draft| {
+                for line in &mut draft.lines {
+                    line.place = Some(line.list[0]);
+                }
+            })
+        },
+    ),
+    (
+        "writes the places before the calls",
+        |call, sheet, journal, text| {
+            let made = call(sheet, journal, text);
+            changed(made, text, |draft| {
+                let first = second::read(sheet).expect("a sheet");
+                for (line, batch) in draft.lines.iter_mut().zip(first.batches()) {
+                    if line.list.contains(&batch.place) {
+                        line.place = Some(batch.place);
+                    }
+                }
+            })
+        },
+    ),
+    ("sorts a list", |call, sheet, journal, text| {
+        changed(call(sheet, journal, text), text, |draft| {
+            draft.lines.iter_mut().for_each(|line| line.list.sort());
+        })
+    }),
+    (
+        "puts the place first in its list",
+        |call, sheet, journal, text| {
+            changed(call(sheet, journal, text), text, |draft| {
+                for line in &mut draft.lines {
+                    line.list.sort_by_key(|&j| Some(j) != line.place);
+                }
+            })
+        },
+    ),
+    (
+        "writes the number of batches before the calls",
+        |call, sheet, journal, text| {
+            let made = call(sheet, journal, text);
+            if made.refusal == 0 {
+                text[6..12].copy_from_slice(&sheet[6..12]);
+            }
+            made
+        },
+    ),
+    ("leaves out the last line", |call, sheet, journal, text| {
+        let mut whole = vec![0; 2_000];
+        let made = call(sheet, journal, &mut whole);
+        if made.refusal != 0 {
+            return made;
+        }
+        let lines = whole[..made.length].split_inclusive(|&b| b == b'\n');
+        let last = lines.last().expect("a line").len();
+        let length = made.length - last;
+        if text.len() < length {
+            return SHORT;
+        }
+        text[..length].copy_from_slice(&whole[..length]);
+        Hosted { length, ..made }
+    }),
+    ("ends in an empty line", |call, sheet, journal, text| {
+        let made = call(sheet, journal, text);
+        match text.get_mut(made.length) {
+            Some(next) if made.refusal == 0 => {
+                *next = b'\n';
+                Hosted {
+                    length: made.length + 1,
+                    ..made
+                }
+            }
+            _ => made,
+        }
+    }),
+    ("enters no plan", |call, sheet, journal, text| {
+        let journal = without(sheet, journal, |call, _| *call != Call::Plan);
+        call(sheet, &journal, text)
+    }),
+    ("enters no edit", |call, sheet, journal, text| {
+        let journal = without(sheet, journal, |_, answer| *answer != Answer::Done);
+        call(sheet, &journal, text)
+    }),
+    ("enters a trial as a plan", |call, sheet, journal, text| {
+        let calls = read(journal).unwrap_or_default();
+        let trial = |call: &Call| matches!(call, Call::Trial { .. });
+        match calls.iter().any(trial) {
+            true => call(sheet, &[journal, b"     7\n"].concat(), text),
+            false => call(sheet, journal, text),
+        }
+    }),
+    (
+        "ends the run at a refused call",
+        |call, sheet, journal, text| {
+            let mut refused = false;
+            let journal = without(sheet, journal, |_, answer| {
+                refused |= matches!(answer, Answer::Refused(_));
+                !refused
+            });
+            call(sheet, &journal, text)
+        },
+    ),
+    (
+        "writes no sheet after a refused call",
+        |call, sheet, journal, text| {
+            let good = without(sheet, journal, |_, answer| {
+                !matches!(answer, Answer::Refused(_))
+            });
+            match read(journal) {
+                Ok(_) if good != journal => Hosted {
+                    refusal: BAD_JOURNAL,
+                    line: 1,
+                    length: 0,
+                },
+                _ => call(sheet, journal, text),
+            }
+        },
+    ),
+];
+
+/// Does a call pass for the one that it is to be, on a few sheets and journals?
+fn verdict(which: usize, call: impl Fn(&[u8], &[u8], &mut [u8]) -> Hosted) -> Result<(), String> {
+    let open = "     3     3
+    30     0     2     3     2
+    20           3     2     1     3
+    10     1     2     3     1
+";
+    let sheets = [SHEET, open, &SHEET.replace("    20", "  1441")];
+    let edits = "     4     1     2\n     2     9\n     3     3     2     2     1\n     2     2\n";
+    let journals = [
+        String::new(),
+        "     5\n     4     1     2\n     5\n     7\n".into(),
+        edits.into(),
+        format!("{edits}     1    15     1     1\n     1    15     2     2     1\n"),
+        "     4     1     2\n     6     0\n     5\n".into(),
+        format!("{edits}     7"),
+        format!("{edits}     8\n{edits}"),
+        format!("{edits}     6      \n"),
+    ];
+    let mut judge = Judge::new(call);
+    for sheet in sheets {
+        for journal in &journals {
+            let (sheet, journal) = (sheet.as_bytes(), journal.as_bytes());
+            let due = &dues(sheet, journal)[which];
+            judge.rooms(sheet, journal, due, Rooms::All(20), &mut Calls::default())?;
+        }
+    }
+    Ok(())
+}
+
+/// Each is caught, and the honest calls are not.
+#[test]
+fn cheats_are_caught() {
+    let own = [ANSWERS.as_slice(), &WRITTEN];
+    for (which, honest) in BOTH.into_iter().enumerate() {
+        assert_eq!(verdict(which, honest), Ok(()));
+        for (name, cheat) in EITHER.iter().chain(own[which]) {
+            let found = verdict(which, |sheet, journal, text| {
+                cheat(honest, sheet, journal, text)
+            });
+            assert!(found.is_err(), "not caught: {name}");
+        }
+    }
+}
