@@ -34,8 +34,8 @@ bash scripts/alive.sh
 log=$(mktemp)
 rust=$(mktemp)
 trap 'kill "$beside" 2>/dev/null || true; rm -f "$log" "$rust"' EXIT
-# The other tests are compiled meanwhile, ahead of the library that they call. The proofs come first where both want a processor.
-(cd tests && nice cargo test --offline --quiet -p second && BANKPLAN_LATER=1 nice cargo test --offline --quiet --no-run -p host) >"$rust" 2>&1 &
+# The proofs come first where both want a processor.
+(cd tests && nice cargo test --offline --quiet -p second) >"$rust" 2>&1 &
 beside=$!
 
 echo "== proofs, must-fail edits and programs; beside them the second planner's own tests"

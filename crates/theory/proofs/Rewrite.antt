@@ -150,21 +150,32 @@ file-alike d =
     (alike-append (unmarked l) l l (openInBatches (d .batches)) (renderBatches (d .batches))
     (renderBatches (map describedBatch (map placed (d .batches)))) (alike-same (length l) l refl) (batches-alike (d .batches)))
 
--- what the file s says, read as k, and that the file written from k is s but for places that s gives as 0 or blank
+-- What the file s says, read as k. And whatever description s is the file of: the file written from k is s but for the places that it
+-- gives as 0 or blank.
 pub record Rewritten (s : List ℕ) (k : Book) : Type 0 where
   pub says : Description
   pub within : withinLimits says ≡ true
   pub file : render says ≡ s
-  pub same : alike (openColumns says) s (written k) ≡ true
+  pub same : (d : Description) → withinLimits d ≡ true → render d ≡ s → alike (openColumns d) s (written k) ≡ true
   pub long : length (written k) ≡ length s
+
+any-alike : (s : List ℕ) (k : Book) → read s ≡ accepted k → (d : Description) → withinLimits d ≡ true → render d ≡ s
+    → alike (openColumns d) s (written k) ≡ true
+any-alike s k e d w f =
+    let q : accepted (bookSaid d) ≡ accepted k = sym (read-render d w) ∙ ap read f ∙ e in
+    let b : bookSaid d ≡ k = cc in
+    rw (f, b) at (file-alike d)
 
 pub rewritten : (s : List ℕ) (k : Book) → read s ≡ accepted k → Rewritten s k
 rewritten s k e =
     let x = read-is-render s k e in
-    let d = x .0 in
-    let a : alike (openColumns d) s (written k) ≡ true =
-    rw (x .3, x .2) at (file-alike d) in
-    record { says = d; within = x .1; file = x .3; same = a; long = sym (alike-length (openColumns d) s (written k) a) }
+    record {
+      says = x .0;
+      within = x .1;
+      file = x .3;
+      same = any-alike s k e;
+      long = sym (alike-length (openColumns (x .0)) s (written k) (any-alike s k e (x .0) (x .1) (x .3)));
+    }
 
 -- ---- how long a file is
 
