@@ -1,6 +1,7 @@
 /*
  * A host in C: plans the sheet in a file and prints the listing, then runs the journal in another file on the same sheet and
- * prints, each after an empty line, the answers and the sheet as the journal leaves it.
+ * prints, each after an empty line, the answers and the sheet as the journal leaves it. At midday it settles that sheet, and prints what
+ * comes of it: the finish, the batches that go to another instrument, and the sheet with which the day goes on.
  *
  *   host SHEET JOURNAL
  *
@@ -8,6 +9,7 @@
  * called in another way.
  */
 #include <errno.h>
+#include <inttypes.h>
 #include <stdint.h>
 #include <stdio.h>
 #include <stdlib.h>
@@ -34,11 +36,15 @@ static const char *words(uint32_t refusal)
     }
 }
 
-/* A refusal is the sheet's, or the journal's where it says so. */
-static void say_refusal(bankplan_answer refused, const char *sheet_name, const char *journal_name)
+static void say_refusal(const char *name, size_t line, uint32_t refusal)
 {
-    fprintf(stderr, "host: %s: line %zu: refusal %lu, %s\n", refused.refusal == BANKPLAN_BAD_JOURNAL ? journal_name : sheet_name,
-            refused.line, (unsigned long)refused.refusal, words(refused.refusal));
+    fprintf(stderr, "host: %s: line %zu: refusal %" PRIu32 ", %s\n", name, line, refusal, words(refusal));
+}
+
+/* A refusal is the sheet's, or the journal's where it says so. */
+static void say_either(bankplan_answer refused, const char *sheet_name, const char *journal_name)
+{
+    say_refusal(refused.refusal == BANKPLAN_BAD_JOURNAL ? journal_name : sheet_name, refused.line, refused.refusal);
 }
 
 /* Twice the room for a buffer, or 0 where there is none; the buffer is then as it was. */
@@ -97,12 +103,22 @@ no_memory:
     return 0;
 }
 
+/* 1 where all was printed, otherwise 0 and a message. */
+static int printed(int all)
+{
+    if (!all)
+        fprintf(stderr, "host: standard output: %s\n", strerror(errno));
+    return all;
+}
+
 static int print(const uint8_t *text, size_t length)
 {
-    if (fwrite(text, 1, length, stdout) == length)
-        return 1;
-    fprintf(stderr, "host: standard output: %s\n", strerror(errno));
-    return 0;
+    return printed(fwrite(text, 1, length, stdout) == length);
+}
+
+static int print_empty_line(void)
+{
+    return printed(putchar('\n') != EOF);
 }
 
 /* Plans the sheet and prints its listing. Every listing fits this buffer. */
@@ -113,7 +129,7 @@ static int plan(const char *name, const struct bytes *sheet)
 
     planned = bankplan_plan(sheet->at, sheet->length, listing, sizeof listing);
     if (planned.refusal != BANKPLAN_NO_REFUSAL) {
-        say_refusal(planned, name, NULL);
+        say_refusal(name, planned.line, planned.refusal);
         return 0;
     }
     return print(listing, planned.length);
@@ -144,29 +160,57 @@ static int run(const char *sheet_name, const struct bytes *sheet, const char *jo
     if (ran.refusal == BANKPLAN_NO_REFUSAL)
         good = print(answers, ran.length);
     else
-        say_refusal(ran, sheet_name, journal_name);
+        say_either(ran, sheet_name, journal_name);
     free(answers);
     return good;
 }
 
-/* Prints the sheet as the journal leaves it. Every sheet fits this buffer. */
-static int write_back(const char *sheet_name, const struct bytes *sheet, const char *journal_name, const struct bytes *journal)
+/* Prints the sheet as the journal leaves it, and gives it to the caller, who frees it. Every sheet fits this buffer. */
+static int write_back(const char *sheet_name, const struct bytes *sheet, const char *journal_name, const struct bytes *journal,
+                      struct bytes *left)
 {
-    uint8_t written[BANKPLAN_LARGEST_SHEET];
     bankplan_answer wrote;
 
-    wrote = bankplan_write(sheet->at, sheet->length, journal->at, journal->length, written, sizeof written);
-    if (wrote.refusal != BANKPLAN_NO_REFUSAL) {
-        say_refusal(wrote, sheet_name, journal_name);
+    left->at = malloc(BANKPLAN_LARGEST_SHEET);
+    if (left->at == NULL) {
+        fprintf(stderr, "host: no memory\n");
         return 0;
     }
-    return print(written, wrote.length);
+    wrote = bankplan_write(sheet->at, sheet->length, journal->at, journal->length, left->at, BANKPLAN_LARGEST_SHEET);
+    if (wrote.refusal != BANKPLAN_NO_REFUSAL) {
+        say_either(wrote, sheet_name, journal_name);
+        return 0;
+    }
+    left->length = wrote.length;
+    return print(left->at, left->length);
+}
+
+/* Settles a sheet, without a reshuffle: prints the finish, which batch goes where, and the new sheet. List and buffer fit every sheet. */
+static int midday(const char *name, const struct bytes *sheet)
+{
+    bankplan_move moves[BANKPLAN_MOST_BATCHES];
+    uint8_t written[BANKPLAN_LARGEST_SHEET];
+    bankplan_settled settled;
+    size_t i;
+
+    settled = bankplan_settle(sheet->at, sheet->length, moves, BANKPLAN_MOST_BATCHES, written, sizeof written);
+    if (settled.refusal != BANKPLAN_NO_REFUSAL) {
+        say_refusal(name, settled.line, settled.refusal);
+        return 0;
+    }
+    if (!printed(printf("midday: finish %" PRIu32 ", settling moves %" PRIu64 "\n", settled.finish, settled.moves) > 0))
+        return 0;
+    for (i = 0; i < settled.records; i++)
+        if (!printed(printf("batch %" PRIu32 " goes from %" PRIu32 " to %" PRIu32 "\n", moves[i].batch, moves[i].from, moves[i].to) > 0))
+            return 0;
+    return print(written, settled.length);
 }
 
 int main(int argc, char **argv)
 {
     struct bytes sheet = {NULL, 0};
     struct bytes journal = {NULL, 0};
+    struct bytes left = {NULL, 0};
     int good;
 
     if (argc != 3) {
@@ -174,10 +218,12 @@ int main(int argc, char **argv)
         return 2;
     }
     good = read_file(argv[1], &sheet) && read_file(argv[2], &journal) && plan(argv[1], &sheet) &&
-           print((const uint8_t *)"\n", 1) && run(argv[1], &sheet, argv[2], &journal) &&
-           print((const uint8_t *)"\n", 1) && write_back(argv[1], &sheet, argv[2], &journal);
+           print_empty_line() && run(argv[1], &sheet, argv[2], &journal) &&
+           print_empty_line() && write_back(argv[1], &sheet, argv[2], &journal, &left) &&
+           print_empty_line() && midday("the sheet at midday", &left);
     free(sheet.at);
     free(journal.at);
+    free(left.at);
     if (fclose(stdout) != 0) {
         fprintf(stderr, "host: standard output: %s\n", strerror(errno));
         good = 0;

@@ -1,19 +1,23 @@
 /*
  * The bank queue planner for hosts in C and C++ (Linux, x86-64).
  *
- * Three calls. bankplan_plan reads a sheet, plans it and writes the listing. bankplan_run reads a sheet, makes a list of calls on it, one
- * after the other, and writes their answers. bankplan_write makes them too, and writes the sheet that they leave. All take any bytes and
- * any lengths, and answer a refusal where something is wrong.
+ * Five calls. bankplan_plan reads a sheet, plans it and writes the listing. bankplan_run reads a sheet, makes a list of calls on it, one
+ * after the other, and writes their answers. bankplan_write makes them too, and writes the sheet that they leave. bankplan_balance and
+ * bankplan_settle are the two parts of planning, for a host that keeps its sheet as a file: each reads a sheet, fills a list with a
+ * record of each batch that it moves, and writes the sheet that it leaves. All take any bytes and any lengths, and answer a refusal where
+ * something is wrong.
  *
  * What a host owes on each call:
- *   - Every pointer is valid for its length: that many bytes may be read, or, in the lent buffer, which comes last, written.
+ *   - Every pointer is valid for its length: so many bytes of a sheet or a journal may be read, so many bytes of the lent buffer, which
+ *     comes last, and so many entries of the lent list may be written.
  *   - No pointer is null, not even beside a length of 0. Any valid pointer will do there.
- *   - The lent buffer overlaps neither the sheet nor the journal, and no other thread uses it until the call returns. Nothing
- *     writes to the sheet or the journal meanwhile.
- *   - The thread has 128 kB of stack left. (Calls were measured at 102 kB; this is not proved.)
+ *   - The lent buffer and the lent list overlap neither each other nor the sheet nor the journal, and no other thread uses them until the
+ *     call returns. Nothing writes to the sheet or the journal meanwhile.
+ *   - The thread has 128 kB of stack left. (Calls were measured at 98 kB; this is not proved.)
  *
  * What the library promises:
- *   - It reads only the sheet and the journal, and writes only to the lent buffer, at its front. Bytes past the text keep their values.
+ *   - It reads only the sheet and the journal, and writes only to the lent buffer and the lent list, at their fronts. Bytes past the text
+ *     and entries past the records keep their values.
  *   - A refusal writes nothing at all.
  *   - Every call ends. It keeps no pointer and nothing from one call to the next, allocates nothing, opens no file and prints nothing, so
  *     calls may be made from several threads at once.
@@ -33,7 +37,7 @@
 extern "C" {
 #endif
 
-/* A sheet's limits. */
+/* A sheet's limits. A list of BANKPLAN_MOST_BATCHES entries is never too short for bankplan_balance and bankplan_settle. */
 #define BANKPLAN_MOST_INSTRUMENTS 24
 #define BANKPLAN_MOST_BATCHES 200
 #define BANKPLAN_MOST_MINUTES 1440
@@ -41,14 +45,14 @@ extern "C" {
 /* The largest listing in bytes: a buffer of this size never gets BANKPLAN_BUFFER_SHORT from bankplan_plan. */
 #define BANKPLAN_LARGEST_LISTING 3994
 
-/* The longest line of an answer in bytes, its LF included: so many for each line of the journal are always enough for bankplan_run. */
-#define BANKPLAN_LONGEST_ANSWER 1225
+/* No line of an answer has more bytes, its LF included: so many for each line of the journal are always enough for bankplan_run. */
+#define BANKPLAN_LONGEST_ANSWER 3793
 
-/* The largest written sheet in bytes: a buffer of this size never gets BANKPLAN_BUFFER_SHORT from bankplan_write. */
+/* The largest written sheet in bytes: a buffer of this size is never too short for bankplan_write, bankplan_balance and bankplan_settle. */
 #define BANKPLAN_LARGEST_SHEET 32613
 
 /*
- * Refusals. 1 to 5 are those of a sheet, and come with the line. 3 to 8 are those of a single call of a journal: they stand in its
+ * Refusals. 1 to 5 are those of a sheet, and come with the line. 3 to 9 are those of a single call of a journal: they stand in its
  * answers, and the run goes on. 9 and 19 are the host's own.
  */
 enum bankplan_refusal {
@@ -61,16 +65,48 @@ enum bankplan_refusal {
     BANKPLAN_NO_BATCH = 6,     /* no batch of that number */
     BANKPLAN_SHEET_FULL = 7,   /* a batch more than 200 */
     BANKPLAN_LEVEL_ABOVE = 8,  /* a trial's level above the total minutes */
-    BANKPLAN_BUFFER_SHORT = 9, /* the lent buffer is shorter than the text */
+    BANKPLAN_BUFFER_SHORT = 9, /* the lent buffer is shorter than the text, or the list for records has fewer entries than batches */
     BANKPLAN_BAD_JOURNAL = 19  /* the journal is not of its form */
 };
 
-/* What every call answers. */
+/* What bankplan_plan, bankplan_run and bankplan_write answer. */
 typedef struct bankplan_answer {
     uint32_t refusal; /* 0 for none, 1 to 5, or 9; with a journal also 19 */
     size_t line;      /* the sheet's line of refusals 1 to 5, the journal's of 19, both from 1; otherwise 0 */
     size_t length;    /* the bytes written; 0 on a refusal */
 } bankplan_answer;
+
+/* A record: a batch that stands elsewhere than before the call. */
+typedef struct bankplan_move {
+    uint32_t batch; /* its number, from 1 */
+    uint32_t from;  /* the instrument where it stood */
+    uint32_t to;    /* the instrument where it stands */
+} bankplan_move;
+
+/* What bankplan_balance answers. On a refusal all but refusal and line is 0. */
+typedef struct bankplan_balanced {
+    uint32_t refusal;                         /* 0 for none, 1 to 5, or 9 */
+    size_t line;                              /* the sheet's line of refusals 1 to 5, from 1; otherwise 0 */
+    size_t length;                            /* the bytes of the written sheet */
+    uint32_t finish;                          /* the finish that balance leaves; the rest is as in a listing */
+    uint32_t floor;
+    uint32_t level;
+    uint32_t raises;
+    uint32_t bumps;
+    size_t size;                              /* of the group, 0 for none */
+    uint8_t group[BANKPLAN_MOST_INSTRUMENTS]; /* its instruments, ascending, and 0 past them */
+    size_t records;                           /* how many are at the front of the list */
+} bankplan_balanced;
+
+/* What bankplan_settle answers. On a refusal all but refusal and line is 0. */
+typedef struct bankplan_settled {
+    uint32_t refusal; /* refusal, line and length as above */
+    size_t line;
+    size_t length;
+    uint32_t finish;  /* the finish that settle leaves */
+    uint64_t moves;   /* the settling moves, of which there may be more than records */
+    size_t records;   /* how many are at the front of the list */
+} bankplan_settled;
 
 /*
  * Plans a sheet, and writes its listing at the front of the lent buffer.
@@ -81,6 +117,9 @@ typedef struct bankplan_answer {
  * A listing: line 1 has the finish, the floor that no plan can beat, the level, raises and bumps of the trial kept, and the settling
  * moves. Line 2 has the size and the instruments of the group of the highest level that failed, or 0 where none failed; where the floor is
  * above the longest batch, that group shows it. Then each batch has a line: its number, its place and its length.
+ *
+ * Planning is to balance, and to settle straight after: the finish and the settling moves are those of settle, the rest of lines 1 and 2
+ * that of balance.
  *
  * The first fault in the sheet decides which of 1 to 5 is answered; 9 comes only for a sheet without a fault.
  */
@@ -98,9 +137,11 @@ bankplan_answer bankplan_plan(const uint8_t *sheet, size_t sheet_length, uint8_t
  *   4 BATCH INSTRUMENT            move a batch
  *   5                             review
  *   6 LEVEL                       a single trial; the sheet stays as it is
- *   7                             plan; the sheet gets the new places
+ *   7 ENTRIES                     balance; the sheet gets the new places
+ *   8 ENTRIES                     settle; the sheet gets the new places
  *
- * Any number that six columns hold is of the form: the call itself refuses a wrong one.
+ * Any number that six columns hold is of the form: the call itself refuses a wrong one. ENTRIES is the length of a list for the records of
+ * moves; none is lent, and the records stand in the answer. Fewer entries than the sheet has batches at that call is 9; 200 always do.
  *
  * The answers have a line for each call, with the refusal first, 0 for none. A refused call has nothing more and changes nothing.
  *
@@ -108,8 +149,9 @@ bankplan_answer bankplan_plan(const uint8_t *sheet, size_t sheet_length, uint8_t
  *   5        0 FINISH GAINS LOAD..                  the lowest batch that gains, 0 where the plan is settled; every instrument's load
  *   6        0 1 RAISES BUMPS PLACE..               a pass: every batch's place
  *            0 0 RAISES BUMPS INSTRUMENT..          a failure: the group, ascending
- *   7        0 FINISH FLOOR LEVEL RAISES BUMPS MOVES SIZE INSTRUMENT..
- *                                                   as lines 1 and 2 of a listing, on one line; MOVES has twelve columns
+ *   7        0 FINISH FLOOR LEVEL RAISES BUMPS SIZE INSTRUMENT.. COUNT BATCH FROM TO..
+ *                                                   the group's size and the group; how many records, and three numbers for each
+ *   8        0 FINISH MOVES COUNT BATCH FROM TO..   the settling moves, in twelve columns; how many records, and those
  *
  * The order of refusals: 1 to 5 for the sheet, then 19 for the journal, then 9. A journal is judged whole before its first call is made. On
  * 9, call again with a larger buffer: the answers are the same.
@@ -130,6 +172,29 @@ bankplan_answer bankplan_run(const uint8_t *sheet, size_t sheet_length, const ui
  */
 bankplan_answer bankplan_write(const uint8_t *sheet, size_t sheet_length, const uint8_t *journal, size_t journal_length,
                                uint8_t *written, size_t written_length);
+
+/*
+ * Balances a sheet: plans it, and ends before settling. Writes the records at the front of the lent list, and the sheet that is left, in
+ * the form of bankplan_write, at the front of the lent buffer. The length of the list counts entries.
+ *
+ * There is one record for each batch whose place differs afterwards, ascending by batch. The finish is no later than it was; on a sheet
+ * with a batch it is above that of any plan on qualified instruments by less than the longest batch.
+ *
+ * The order of refusals: 1 to 5 for the sheet; then 9 where the list has fewer entries than the sheet has batches, however many records
+ * there are; then 9 where the buffer is shorter than the written sheet.
+ */
+bankplan_balanced bankplan_balance(const uint8_t *sheet, size_t sheet_length, bankplan_move *moves, size_t moves_length,
+                                   uint8_t *written, size_t written_length);
+
+/*
+ * Settles a sheet, without balancing it. A batch gains where another of its qualified instruments would have less load with it than the
+ * one where it stands has now; as long as some batch gains, the longest that does moves. Afterwards none gains, and the finish is no later
+ * than it was.
+ *
+ * Lent list, lent buffer and refusals are as with bankplan_balance. A batch that moves away and returns has no record.
+ */
+bankplan_settled bankplan_settle(const uint8_t *sheet, size_t sheet_length, bankplan_move *moves, size_t moves_length,
+                                 uint8_t *written, size_t written_length);
 
 #ifdef __cplusplus
 }

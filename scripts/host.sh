@@ -28,6 +28,13 @@ cmp -s examples/blank.txt "$work/zeros" && fail "examples/blank.txt has no blank
 "$work/host" examples/blank.txt "$work/empty" >"$work/out" || fail "the example did not end well on a sheet with blank places"
 "$work/host" "$work/zeros" "$work/empty" | cmp -s - "$work/out" || fail "a blank place is not place 0"
 
+# what is settled at midday has nothing left to settle
+tail -n 4 examples/expected.txt >"$work/left"
+"$work/host" "$work/left" "$work/empty" >"$work/out" || fail "the example did not end well on the sheet that midday left"
+[ "$(grep -c '^midday: finish 25, settling moves 0$' "$work/out")" = 1 ] || fail "the sheet that midday left is not settled"
+! grep -q '^batch' "$work/out" || fail "a batch moves on a settled sheet"
+tail -n 4 "$work/out" | cmp -s - "$work/left" || fail "a settled sheet changes"
+
 # refused TEXT WORDS..: the example on these files ends with 1, and TEXT is all that it says
 refused() {
     local said=$1 status=0
@@ -48,6 +55,8 @@ sed '2s/^    45/      /' "$top/examples/blank.txt" >sheet
 sed '3s/     2$/      /' "$top/examples/journal.txt" >journal
 refused "host: sheet: line 2: refusal 1, not of a sheet's form" sheet "$top/examples/journal.txt"
 refused "host: journal: line 3: refusal 19, not of a journal's form" "$top/examples/sheet.txt" journal
+sed '8s/^     7     4$/     7/' "$top/examples/journal.txt" >journal
+refused "host: journal: line 8: refusal 19, not of a journal's form" "$top/examples/sheet.txt" journal
 refused "host: none: No such file or directory" none journal
 
 ./boundary || fail "the calls are not as they should be at their edges"

@@ -1,7 +1,9 @@
 /*
- * The three calls at their edges, from C: refused sheets, malformed journals, buffers that are too short, that just fit and that are
- * longer, and the largest texts. Ends with 0 where all is as it should be; otherwise says each line that is not, and ends with 1.
+ * The five calls at their edges, from C: refused sheets, malformed journals, buffers and lists that are too short, that just fit and that
+ * are longer, bytes at odd places, and the largest texts. Ends with 0 where all is as it should be; otherwise says each line that is not,
+ * and ends with 1.
  */
+#include <stddef.h>
 #include <stdint.h>
 #include <stdio.h>
 #include <string.h>
@@ -9,11 +11,20 @@
 #include "bankplan.h"
 
 _Static_assert(sizeof(bankplan_answer) == 24, "three words of 64 bits, the first half used");
+_Static_assert(sizeof(bankplan_move) == 12, "three words of 32 bits");
+_Static_assert(sizeof(bankplan_balanced) == 88 && offsetof(bankplan_balanced, finish) == 24 && offsetof(bankplan_balanced, size) == 48 &&
+               offsetof(bankplan_balanced, group) == 56 && offsetof(bankplan_balanced, records) == 80,
+               "the first half used of the words before line and size");
+_Static_assert(sizeof(bankplan_settled) == 48 && offsetof(bankplan_settled, finish) == 24 && offsetof(bankplan_settled, moves) == 32 &&
+               offsetof(bankplan_settled, records) == 40,
+               "six words of 64 bits, the first half used of the one before moves");
 
 #define ROOM (BANKPLAN_LARGEST_SHEET + 1)
+#define ENTRIES (BANKPLAN_MOST_BATCHES + 2)
 #define UNTOUCHED 0xA5
 
 static uint8_t buffer[ROOM];
+static bankplan_move list[ENTRIES];
 static int faults;
 
 #define CHECK(fact) check(__LINE__, #fact, (fact))
@@ -63,6 +74,56 @@ static int answered(bankplan_answer a, uint32_t refusal, size_t line, size_t len
     return a.refusal == refusal && a.line == line && a.length == length;
 }
 
+static bankplan_balanced balance(const char *sheet, size_t entries, size_t room)
+{
+    memset(buffer, UNTOUCHED, ROOM);
+    memset(list, UNTOUCHED, sizeof list);
+    return bankplan_balance((const uint8_t *)sheet, strlen(sheet), list, entries, buffer, room);
+}
+
+static bankplan_settled settle(const char *sheet, size_t entries, size_t room)
+{
+    memset(buffer, UNTOUCHED, ROOM);
+    memset(list, UNTOUCHED, sizeof list);
+    return bankplan_settle((const uint8_t *)sheet, strlen(sheet), list, entries, buffer, room);
+}
+
+/* The list has these records, and past them nothing was written. */
+static int lists(const bankplan_move *records, size_t count)
+{
+    const uint8_t *past = (const uint8_t *)(list + count);
+    size_t i;
+
+    if (count > 0 && memcmp(list, records, count * sizeof *records) != 0)
+        return 0;
+    for (i = 0; i < (ENTRIES - count) * sizeof *list; i++)
+        if (past[i] != UNTOUCHED)
+            return 0;
+    return 1;
+}
+
+/* Nothing was written anywhere. */
+static int untouched(void)
+{
+    return holds("") && lists(NULL, 0);
+}
+
+static int refused_balance(bankplan_balanced b, uint32_t refusal, size_t line)
+{
+    size_t i;
+
+    for (i = 0; i < sizeof b.group; i++)
+        if (b.group[i] != 0)
+            return 0;
+    return b.refusal == refusal && b.line == line && b.length == 0 && b.finish == 0 && b.floor == 0 && b.level == 0 && b.raises == 0 &&
+           b.bumps == 0 && b.size == 0 && b.records == 0 && untouched();
+}
+
+static int refused_settle(bankplan_settled z, uint32_t refusal, size_t line)
+{
+    return z.refusal == refusal && z.line == line && z.length == 0 && z.finish == 0 && z.moves == 0 && z.records == 0 && untouched();
+}
+
 static const char sheet[] = "     2     3\n"
                             "    30     1     2     1     2\n"
                             "    20     1     1     1\n"
@@ -84,6 +145,27 @@ static const char written[] = "     2     3\n"
                               "    30     1     2     1     2\n"
                               "    20     1     1     1\n"
                               "    10     2     2     1     2\n";
+
+/* what balance and settle leave of the sheet above, and their one record */
+static const char planned[] = "     2     3\n"
+                              "    30     2     2     1     2\n"
+                              "    20     1     1     1\n"
+                              "    10     1     2     1     2\n";
+static const bankplan_move first_goes[] = {{1, 1, 2}};
+/* settling moves batch 2 away and back, and batch 4 in between */
+static const char returning[] = "     3     4\n"
+                                "     1     3     1     3\n"
+                                "     4     3     2     2     3\n"
+                                "     2     2     1     2\n"
+                                "     2     3     2     1     3\n";
+static const bankplan_move fourth_goes[] = {{4, 3, 1}};
+/* balance leaves it, with a group of two; settling moves two batches */
+static const char unsettled[] = "     2     4\n"
+                                "     2     2     1     2\n"
+                                "     4     1     2     2     1\n"
+                                "     5     1     2     2     1\n"
+                                "     2     2     2     1     2\n";
+static const bankplan_move two_go[] = {{2, 1, 2}, {4, 2, 1}};
 
 static void sheets(void)
 {
@@ -137,17 +219,122 @@ static void journals(void)
 {
     CHECK(answered(run(sheet, journal, ROOM), 0, 0, strlen(answers)) && holds(answers));
     CHECK(answered(run(sheet, "", 0), 0, 0, 0) && holds(""));
-    CHECK(answered(run(sheet, "     5\n     7\n     8\n", ROOM), BANKPLAN_BAD_JOURNAL, 3, 0) && holds(""));
-    CHECK(answered(run(sheet, "     5\n     7", ROOM), BANKPLAN_BAD_JOURNAL, 2, 0) && holds(""));
+    CHECK(answered(run(sheet, "     5\n     7     3\n     9     3\n", ROOM), BANKPLAN_BAD_JOURNAL, 3, 0) && holds(""));
+    CHECK(answered(run(sheet, "     5\n     7     3", ROOM), BANKPLAN_BAD_JOURNAL, 2, 0) && holds(""));
+    /* balance and settle have a number */
+    CHECK(answered(run(sheet, "     7\n", ROOM), BANKPLAN_BAD_JOURNAL, 1, 0) && holds(""));
+    CHECK(answered(run(sheet, "     7     3\n     8\n", ROOM), BANKPLAN_BAD_JOURNAL, 2, 0) && holds(""));
+    CHECK(answered(run(sheet, "     7     2\n     8     2\n     7     3\n     8     4\n", ROOM), 0, 0, 7 + 7 + 67 + 31) &&
+          holds("     9\n     9\n     0    30    30     0     2     2     0     1     1     1     2\n     0    30           0     0\n"));
+    CHECK(answered(run(returning, "     8999999\n", ROOM), 0, 0, 49) && holds("     0     5           3     1     4     3     1\n"));
     CHECK(answered(run(sheet, "     5     0\n", ROOM), BANKPLAN_BAD_JOURNAL, 1, 0) && holds(""));
     CHECK(answered(run(sheet, "     1    10     2     1\n", ROOM), BANKPLAN_BAD_JOURNAL, 1, 0) && holds(""));
     CHECK(answered(run(sheet, "     5\n     4     1      \n", ROOM), BANKPLAN_BAD_JOURNAL, 2, 0) && holds(""));
     /* a sheet's fault comes before a journal's, and that before a short buffer */
     CHECK(answered(run(too_long, "\n", ROOM), BANKPLAN_BAD_LENGTH, 2, 0) && holds(""));
     CHECK(answered(run(sheet, "\n", 0), BANKPLAN_BAD_JOURNAL, 1, 0) && holds(""));
-    CHECK(answered(write_back(sheet, "     4     3     2\n     7", ROOM), BANKPLAN_BAD_JOURNAL, 2, 0) && holds(""));
+    CHECK(answered(write_back(sheet, "     4     3     2\n     7     3", ROOM), BANKPLAN_BAD_JOURNAL, 2, 0) && holds(""));
+    CHECK(answered(write_back(sheet, "     7     2\n", ROOM), 0, 0, strlen(sheet)) && holds(sheet));
+    CHECK(answered(write_back(sheet, "     8     3\n", ROOM), 0, 0, strlen(planned)) && holds(planned));
     CHECK(answered(write_back(too_long, "\n", ROOM), BANKPLAN_BAD_LENGTH, 2, 0) && holds(""));
     CHECK(answered(write_back(sheet, "\n", 0), BANKPLAN_BAD_JOURNAL, 1, 0) && holds(""));
+}
+
+static int balanced_first(bankplan_balanced b)
+{
+    return b.refusal == 0 && b.line == 0 && b.length == strlen(planned) && b.finish == 30 && b.floor == 30 && b.level == 0 &&
+           b.raises == 2 && b.bumps == 2 && b.size == 0 && b.group[0] == 0 && b.records == 1 && lists(first_goes, 1) && holds(planned);
+}
+
+static int settled_first(bankplan_settled z)
+{
+    return z.refusal == 0 && z.line == 0 && z.length == strlen(planned) && z.finish == 30 && z.moves == 1 && z.records == 1 &&
+           lists(first_goes, 1) && holds(planned);
+}
+
+static void files(void)
+{
+    static const char empty[] = "     2     0\n";
+    static const size_t enough[] = {3, 4, ENTRIES};
+    bankplan_balanced b;
+    bankplan_settled z;
+    size_t i;
+
+    /* as many entries as batches, and more */
+    for (i = 0; i < sizeof enough / sizeof *enough; i++) {
+        CHECK(balanced_first(balance(sheet, enough[i], ROOM)) && settled_first(settle(sheet, enough[i], ROOM)));
+        CHECK(balanced_first(balance(sheet, enough[i], strlen(planned))) && settled_first(settle(sheet, enough[i], strlen(planned))));
+    }
+    /* nothing to do, and a group; what is written can be balanced and settled again */
+    b = balance(unsettled, 4, ROOM);
+    CHECK(b.refusal == 0 && b.finish == 9 && b.floor == 7 && b.level == 4 && b.raises == 0 && b.bumps == 0 && b.records == 0);
+    CHECK(b.size == 2 && b.group[0] == 1 && b.group[1] == 2 && b.group[2] == 0 && b.group[23] == 0);
+    CHECK(b.length == strlen(unsettled) && holds(unsettled) && lists(NULL, 0));
+    z = settle(unsettled, 4, ROOM);
+    CHECK(z.refusal == 0 && z.finish == 7 && z.moves == 2 && z.records == 2 && lists(two_go, 2));
+    z = settle(planned, 3, ROOM);
+    CHECK(z.refusal == 0 && z.finish == 30 && z.moves == 0 && z.records == 0 && lists(NULL, 0) && holds(planned));
+    /* a batch that returns has no record */
+    z = settle(returning, 4, ROOM);
+    CHECK(z.refusal == 0 && z.finish == 5 && z.moves == 3 && z.records == 1 && lists(fourth_goes, 1));
+    /* without a batch no entry is needed */
+    b = balance(empty, 0, strlen(empty));
+    CHECK(b.refusal == 0 && b.length == strlen(empty) && b.finish == 0 && b.floor == 0 && b.size == 0 && b.records == 0);
+    CHECK(holds(empty) && lists(NULL, 0));
+    z = settle(empty, 0, strlen(empty));
+    CHECK(z.refusal == 0 && z.length == strlen(empty) && z.finish == 0 && z.moves == 0 && z.records == 0);
+    CHECK(holds(empty) && lists(NULL, 0));
+}
+
+static void refused_files(void)
+{
+    size_t entries, room;
+
+    /* the list goes by the batches, not by the records; a short one comes before a short buffer, and both are 9 */
+    for (entries = 0; entries < 3; entries++) {
+        CHECK(refused_balance(balance(sheet, entries, ROOM), BANKPLAN_BUFFER_SHORT, 0));
+        CHECK(refused_settle(settle(sheet, entries, ROOM), BANKPLAN_BUFFER_SHORT, 0));
+        CHECK(refused_settle(settle(planned, entries, 0), BANKPLAN_BUFFER_SHORT, 0));
+    }
+    for (room = 0; room < strlen(planned); room++) {
+        CHECK(refused_balance(balance(sheet, 3, room), BANKPLAN_BUFFER_SHORT, 0));
+        CHECK(refused_settle(settle(sheet, ENTRIES, room), BANKPLAN_BUFFER_SHORT, 0));
+    }
+    /* a sheet's fault comes before both */
+    CHECK(refused_balance(balance(too_long, ENTRIES, ROOM), BANKPLAN_BAD_LENGTH, 2));
+    CHECK(refused_balance(balance(too_long, 0, ROOM), BANKPLAN_BAD_LENGTH, 2));
+    CHECK(refused_settle(settle(too_long, ENTRIES, 0), BANKPLAN_BAD_LENGTH, 2));
+    CHECK(refused_settle(settle(too_long, 0, 0), BANKPLAN_BAD_LENGTH, 2));
+    CHECK(refused_balance(balance("", 0, 0), BANKPLAN_MALFORMED, 1));
+    CHECK(refused_settle(settle("", ENTRIES, ROOM), BANKPLAN_MALFORMED, 1));
+    CHECK(refused_balance(balance("    25     0\n", ENTRIES, ROOM), BANKPLAN_BAD_SIZE, 1));
+    CHECK(refused_settle(settle("     2     1\n    10     0     2     1     1\n", ENTRIES, ROOM), BANKPLAN_BAD_LIST, 2));
+    CHECK(refused_balance(balance("     2     1\n    10     2     1     1\n", ENTRIES, ROOM), BANKPLAN_BAD_PLACE, 2));
+}
+
+/* Sheet and buffer start at any byte. */
+static void odd_places(void)
+{
+    static uint8_t bytes[sizeof planned + 8], text[sizeof planned + 8];
+    size_t at, i, length = strlen(sheet);
+    bankplan_balanced b;
+    bankplan_settled z;
+
+    for (at = 0; at < 8; at++) {
+        memset(bytes, '9', sizeof bytes);
+        memcpy(bytes + at, sheet, length);
+        memset(text, UNTOUCHED, sizeof text);
+        memset(list, UNTOUCHED, sizeof list);
+        b = bankplan_balance(bytes + at, length, list, 3, text + (7 - at), strlen(planned));
+        CHECK(b.refusal == 0 && b.length == strlen(planned) && memcmp(text + (7 - at), planned, b.length) == 0 && lists(first_goes, 1));
+        memset(text, UNTOUCHED, sizeof text);
+        memset(list, UNTOUCHED, sizeof list);
+        z = bankplan_settle(bytes + at, length, list, 3, text + (7 - at), strlen(planned));
+        CHECK(z.refusal == 0 && z.length == strlen(planned) && memcmp(text + (7 - at), planned, z.length) == 0 && lists(first_goes, 1));
+        for (i = 0; i < sizeof text; i++)
+            CHECK((i >= 7 - at && i < 7 - at + z.length) || text[i] == UNTOUCHED);
+        CHECK(memcmp(bytes + at, sheet, length) == 0);
+    }
 }
 
 /* 200 batches at this place that any of 24 instruments may run. */
@@ -164,21 +351,39 @@ static void fill(char *to, int place)
     }
 }
 
-/* The largest listing, a trial's answer with 200 places, which is the longest, and the largest written sheet. */
+/* The largest listing, a trial's answer with 200 places, a balance's answer with a record for most, and the largest written sheet. */
 static void largest(void)
 {
     static char full[BANKPLAN_LARGEST_SHEET + 1], filled[BANKPLAN_LARGEST_SHEET + 1];
+    bankplan_balanced b;
+    bankplan_settled z;
+    size_t line;
 
     fill(full, 0);
     fill(filled, BANKPLAN_MOST_INSTRUMENTS);
     CHECK(strlen(filled) == BANKPLAN_LARGEST_SHEET);
     CHECK(answered(plan(full, BANKPLAN_LARGEST_LISTING - 1), BANKPLAN_BUFFER_SHORT, 0, 0) && holds(""));
     CHECK(answered(plan(full, BANKPLAN_LARGEST_LISTING), 0, 0, BANKPLAN_LARGEST_LISTING));
-    CHECK(answered(run(full, "     6288000\n", BANKPLAN_LONGEST_ANSWER - 1), BANKPLAN_BUFFER_SHORT, 0, 0) && holds(""));
-    CHECK(answered(run(full, "     6288000\n", BANKPLAN_LONGEST_ANSWER), 0, 0, BANKPLAN_LONGEST_ANSWER));
+    CHECK(answered(run(full, "     6288000\n", 6 * (4 + 200)), BANKPLAN_BUFFER_SHORT, 0, 0) && holds(""));
+    CHECK(answered(run(full, "     6288000\n", 6 * (4 + 200) + 1), 0, 0, 6 * (4 + 200) + 1));
     CHECK(answered(write_back(full, "", BANKPLAN_LARGEST_SHEET - 1), BANKPLAN_BUFFER_SHORT, 0, 0) && holds(""));
     CHECK(answered(write_back(full, "", BANKPLAN_LARGEST_SHEET), 0, 0, BANKPLAN_LARGEST_SHEET) && holds(filled));
     CHECK(answered(write_back(full, "     1    10     1     1\n", ROOM), 0, 0, BANKPLAN_LARGEST_SHEET) && holds(filled));
+
+    CHECK(refused_balance(balance(full, BANKPLAN_MOST_BATCHES - 1, ROOM), BANKPLAN_BUFFER_SHORT, 0));
+    CHECK(refused_settle(settle(full, BANKPLAN_MOST_BATCHES - 1, ROOM), BANKPLAN_BUFFER_SHORT, 0));
+    CHECK(refused_balance(balance(full, BANKPLAN_MOST_BATCHES, BANKPLAN_LARGEST_SHEET - 1), BANKPLAN_BUFFER_SHORT, 0));
+    CHECK(refused_settle(settle(full, BANKPLAN_MOST_BATCHES, BANKPLAN_LARGEST_SHEET - 1), BANKPLAN_BUFFER_SHORT, 0));
+    z = settle(full, BANKPLAN_MOST_BATCHES, BANKPLAN_LARGEST_SHEET);
+    CHECK(z.refusal == 0 && z.length == BANKPLAN_LARGEST_SHEET && z.records > 150 && z.records <= z.moves);
+    b = balance(full, BANKPLAN_MOST_BATCHES, BANKPLAN_LARGEST_SHEET);
+    CHECK(b.refusal == 0 && b.length == BANKPLAN_LARGEST_SHEET && b.size == 24 && b.group[0] == 1 && b.group[23] == 24 && b.records > 150);
+    /* its line in a journal's answers */
+    line = 6 * (1 + 6 + b.size + 1 + 3 * b.records) + 1;
+    CHECK(line <= BANKPLAN_LONGEST_ANSWER);
+    CHECK(answered(run(full, "     7   200\n", line - 1), BANKPLAN_BUFFER_SHORT, 0, 0) && holds(""));
+    CHECK(answered(run(full, "     7   200\n", line), 0, 0, line));
+    CHECK(answered(run(full, "     7   199\n", 7), 0, 0, 7) && holds("     9\n"));
 }
 
 int main(void)
@@ -187,6 +392,9 @@ int main(void)
     written_sheets();
     short_buffers();
     journals();
+    files();
+    refused_files();
+    odd_places();
     largest();
     return faults == 0 ? 0 : 1;
 }

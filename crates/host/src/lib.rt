@@ -3,8 +3,15 @@ ghost use mathlib.Core.Path.{_≡_};
 ghost use Rattle.rules.specs.Listing.{host};
 ghost use Rattle.rules.specs.Journal.{runHost, writeHost};
 ghost use Rattle.text.specs.Answer.{hostedOf};
+ghost use Rattle.filing.specs.Filed.{BalanceIs, SettleIs};
+use filing::BalanceFiled;
+use filing::SettleFiled;
+use filing::balance_file;
+use filing::settle_file;
 use journal::run::run_into;
 use listing::host::plan_into;
+use moves::Move;
+use moves::fill;
 use text::Hosted;
 use written::write::write_into;
 
@@ -35,4 +42,38 @@ pub extern "C" fn bankplan_write(sheet: &[u8], journal: &[u8], written: &mut [u8
     ensures { λ r. ⌜ hostedOf r (now (written .exit)) ≡ writeHost (now (sheet .entry)) (now (journal .entry)) (now (written .entry)) ⌝ }
 {
     write_into(sheet, journal, written)
+}
+
+// Balances a sheet of any bytes, writes the records of what moved at the front of the list, and the file of the sheet that this leaves:
+//   BalanceFiled bankplan_balance(const uint8_t *sheet, size_t sheet_length, Move *moves, size_t moves_length,
+//                        uint8_t *written, size_t written_length);
+#[no_mangle]
+pub extern "C" fn bankplan_balance(
+    sheet: &[u8],
+    moves: &mut [Move],
+    written: &mut [u8],
+) -> BalanceFiled
+    ensures { λ r. ⌜ BalanceIs (now (sheet .entry)) (now (moves .entry)) (now (written .entry)) r (now (moves .exit)) (now (written .exit)) ⌝ }
+{
+    let entries = moves.len();
+    let b = balance_file(sheet, entries, written);
+    fill(moves, b.change);
+    b.reply
+}
+
+// Settles a sheet of any bytes, likewise:
+//   SettleFiled bankplan_settle(const uint8_t *sheet, size_t sheet_length, Move *moves, size_t moves_length,
+//                      uint8_t *written, size_t written_length);
+#[no_mangle]
+pub extern "C" fn bankplan_settle(
+    sheet: &[u8],
+    moves: &mut [Move],
+    written: &mut [u8],
+) -> SettleFiled
+    ensures { λ r. ⌜ SettleIs (now (sheet .entry)) (now (moves .entry)) (now (written .entry)) r (now (moves .exit)) (now (written .exit)) ⌝ }
+{
+    let entries = moves.len();
+    let z = settle_file(sheet, entries, written);
+    fill(moves, z.change);
+    z.reply
 }

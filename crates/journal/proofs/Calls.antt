@@ -12,8 +12,8 @@ use Rattle.rules.specs.Refusal.{Refusal, malformed}
 use Rattle.rules.specs.Field.{Field, value, blank, fault, field}
 use Rattle.rules.specs.Read.{Part, gives, refuses, andThen, orRefuse, fieldPart, numberAt, endOfLine}
 use Rattle.rules.specs.Edit.{add, withdraw, requalify, move}
-use Rattle.rules.specs.Run.{Call, editing, reviewing, trying, planning}
-use Rattle.rules.specs.Journal.{numbersAt, listAt, addAt, withdrawAt, requalifyAt, moveAt, trialAt, callAt, callLine}
+use Rattle.rules.specs.Run.{Call, editing, reviewing, trying, balancing, settling}
+use Rattle.rules.specs.Journal.{numbersAt, listAt, addAt, withdrawAt, requalifyAt, moveAt, trialAt, balanceAt, settleAt, callAt, callLine}
 use Rattle.theory.proofs.Logic.{conflict}
 use Rattle.fields.proofs.Reading.{six}
 use Rattle.journal.specs.declared.entry.Entry.{Entry}
@@ -87,7 +87,7 @@ unfolding moveAt
 move-leaves r = fewer 0 (omega arith) (then-leaves 0 _ (number-leaves r) (λ b k. one-leaves (λ i. editing (move b i)) (drop k r)))
 
 pub call-leaves : (kind : ℕ) (r : List ℕ) → Leaves 0 r (callAt kind r)
-unfolding callAt addAt withdrawAt requalifyAt trialAt
+unfolding callAt addAt withdrawAt requalifyAt trialAt balanceAt settleAt
 call-leaves kind r =
     pick-leaves (eqb kind 1) (listed-leaves (λ t l. editing (add t l)) r)
     (pick-leaves (eqb kind 2) (one-leaves (λ b. editing (withdraw b)) r)
@@ -95,8 +95,9 @@ call-leaves kind r =
     (pick-leaves (eqb kind 4) (move-leaves r)
     (pick-leaves (eqb kind 5) (here reviewing r)
     (pick-leaves (eqb kind 6) (one-leaves (λ a. trying a) r)
-    (pick-leaves (eqb kind 7) (here planning r)
-    (refuse malformed)))))))
+    (pick-leaves (eqb kind 7) (one-leaves (λ c. balancing c) r)
+    (pick-leaves (eqb kind 8) (one-leaves (λ c. settling c) r)
+    (refuse malformed))))))))
 
 end-leaves : (c : Call) (r : List ℕ) → Leaves 1 r (endOfLine r (λ u. gives c u))
 unfolding endOfLine
@@ -130,7 +131,8 @@ next-of (editing (requalify b l)) n = refl
 next-of (editing (move b i)) n = refl
 next-of reviewing n = refl
 next-of (trying a) n = refl
-next-of planning n = refl
+next-of (balancing c) n = refl
+next-of (settling c) n = refl
 
 pub fault-of : (c : Call) (n : ℕ) → entryOf c n .fault ≡ false
 fault-of (editing (add t l)) n = refl
@@ -139,7 +141,8 @@ fault-of (editing (requalify b l)) n = refl
 fault-of (editing (move b i)) n = refl
 fault-of reviewing n = refl
 fault-of (trying a) n = refl
-fault-of planning n = refl
+fault-of (balancing c) n = refl
+fault-of (settling c) n = refl
 
 -- the numbers of its list that are kept stand in its row
 pub count-kept : (c : Call) (n : ℕ) → entryOf c n .count ≤ length (entryOf c n .list)
@@ -149,7 +152,8 @@ count-kept (editing (requalify b l)) n = omega (arith, row-few l, row-long l)
 count-kept (editing (move b i)) n = omega arith
 count-kept reviewing n = omega arith
 count-kept (trying a) n = omega arith
-count-kept planning n = omega arith
+count-kept (balancing c) n = omega arith
+count-kept (settling c) n = omega arith
 
 pub given : (s : List ℕ) (at b : ℕ) (p : Part Call) (e : Entry) → at ≤ length s → Leaves b (drop at s) p
     → e ≡ entryAs (length s) p → e .fault ≡ false → EntryRead s at b p e
@@ -186,7 +190,8 @@ ending-of (editing (requalify b l)) m n = refl
 ending-of (editing (move b i)) m n = refl
 ending-of reviewing m n = refl
 ending-of (trying a) m n = refl
-ending-of planning m n = refl
+ending-of (balancing c) m n = refl
+ending-of (settling c) m n = refl
 
 pub ending-is : (c : Call) (e : Entry) (m n : ℕ) → e ≡ entryOf c m → ending e n ≡ entryOf c n
 ending-is c e m n q = ap (λ (x : Entry). ending x n) q ∙ ending-of c m n
@@ -248,3 +253,11 @@ module _ (size : ℕ) (r : List ℕ) where
   pub trial-entry : numbersAs size (oneNumber 6 r) ≡ entryAs size (trialAt r)
   unfolding trialAt
   trial-entry = then-entry size (numberAt r) _ _ (λ a u. refl)
+
+  pub balance-entry : numbersAs size (oneNumber 7 r) ≡ entryAs size (balanceAt r)
+  unfolding balanceAt
+  balance-entry = then-entry size (numberAt r) _ _ (λ a u. refl)
+
+  pub settle-entry : numbersAs size (oneNumber 8 r) ≡ entryAs size (settleAt r)
+  unfolding settleAt
+  settle-entry = then-entry size (numberAt r) _ _ (λ a u. refl)

@@ -1,12 +1,15 @@
 -- Every answer on a sound sheet fits its columns, and its line is the rules'.
-use Prim.Native.Nat.{ℕ, _≤_, _<_}
+use Prim.Native.Nat.{ℕ, zero, suc, _≤_, _<_}
 use mathlib.Core.Path.{_≡_, refl}
 use mathlib.Core.Bool.{Bool, true, false}
 use mathlib.Core.List.{List, [], _∷_, _++_}
+use native.Mathlib.Nat.{le-refl}
 use native.Mathlib.Omega.{arith}
-use lib.Dec.{leb}
+use lib.Dec.{leb, ltb, eqb}
+use borrow.Author.Tests.{eqb-true, eqb-false}
 use lib.ListN.{length, getD, take, drop, length-append, length-drop}
 use lib.Seq.{length-take-le}
+use Rattle.rules.specs.Fold.{at, thoseTo}
 use Rattle.rules.specs.Refusal as N
 use Rattle.rules.specs.Render.{columns, fields, line}
 use Rattle.rules.specs.Edit as E
@@ -14,32 +17,37 @@ use Rattle.rules.specs.Instance.{Instance, instance, places, n}
 use Rattle.rules.specs.Load.{load, total, review, improves}
 use Rattle.rules.specs.Trial.{atLevel, ended}
 use Rattle.rules.specs.Group as G
-use Rattle.rules.specs.Plan.{plan}
-use Rattle.rules.specs.Run.{Call, Answer, refused, done, reviewed, tried, planned, answer, answerNumbers, editAnswer, tryAnswer, planBook}
+use Rattle.rules.specs.Sheet.{size}
+use Rattle.rules.specs.Moves.{Move, records, moveNumbers, moveOf}
+use Rattle.rules.specs.Run.{Call, Answer, refused, done, reviewed, tried, balanced, settled, answer, answerNumbers, recordNumbers, recordsTo, editAnswer, tryAnswer, roomy, balanceAnswer, settleAnswer, balanceBook, settleBook}
 use Rattle.rules.specs.Run as R
 use Rattle.rules.specs.Journal.{answerLine}
 use Rattle.theory.proofs.Refusal.{number-range}
-use Rattle.theory.proofs.Logic.{conflict}
+use Rattle.theory.proofs.Logic.{byTest, conflict}
 use Rattle.theory.proofs.View.{First, nowhere, found, first}
-use Rattle.theory.proofs.Valid.{on-machine}
+use Rattle.theory.proofs.Valid.{Permitted, on-machine}
 use Rattle.theory.proofs.Closure.{IsGroup, group-range}
 use Rattle.theory.proofs.Heights.{permitted-partial}
 use Rattle.theory.proofs.Ending.{trial-lifts, trial-pushes}
 use Rattle.theory.proofs.Small.{load-small, makespan-small, lifts-small, pushes-small}
 use Rattle.theory.proofs.Trial.{Outcome, passes, fails, outcome, trial-permitted}
 use Rattle.theory.proofs.Balancing.{Showing, unfailed, showed}
-use Rattle.theory.proofs.Planning.{plan-showing}
+use Rattle.theory.proofs.Planning.{balanced-showing, balanced-permitted, rested-permitted}
+use Rattle.theory.proofs.Records.{records-same, records-other, records-few}
+use Rattle.theory.proofs.Member.{every-append}
+use Rattle.theory.proofs.Sound.{jobs-count}
 use Rattle.theory.proofs.Field.{columns-length}
 use Rattle.sheet.specs.declared.Sheet.{Sheet}
 use Rattle.sheet.specs.Represent.{Sound, bookOf}
 use Rattle.theory.proofs.Entries.{length-listTo}
 use Rattle.sheet.proofs.SoundViews.{view-instruments, view-batches, view-valid, view-permitted, view-small}
 use Rattle.theory.proofs.Fields.{fields-length, line-length}
-use Rattle.planner.proofs.Figures.{plan-fits, group-few}
-use Rattle.journal.specs.Answering.{isPlan, lineOf, lineLength, SixColumns, Fitting}
+use Rattle.planner.proofs.Figures.{balance-fits, settle-fits, group-few}
+use Rattle.journal.specs.Answering.{isSettle, lineOf, lineLength, SixColumns, Fitting}
+use Rattle.journal.proofs.Recording.{numbers-append, numbers-length}
 use Rattle.journal.proofs.Small.{small-none, small-more, small-one, small-to, small-mem, small-by}
 
-plain : (l : List ℕ) → length l ≤ 204 → SixColumns l → Fitting false l
+plain : (l : List ℕ) → length l ≤ 632 → SixColumns l → Fitting false l
 plain l h s = record {
   few = h;
   plain = λ e. s;
@@ -55,7 +63,7 @@ refusal-small e = omega (arith, number-range e .1)
 refusal-fits : (e : N.Refusal) → Fitting false (N.number e ∷ [])
 refusal-fits e = plain (N.number e ∷ []) (omega arith) (small-one (N.number e) (refusal-small e))
 
-edit-fits : (o : E.Edited) → Fitting (isPlan (editAnswer o)) (answerNumbers (editAnswer o))
+edit-fits : (o : E.Edited) → Fitting (isSettle (editAnswer o)) (answerNumbers (editAnswer o))
 edit-fits (E.refused e) = refusal-fits e
 edit-fits (E.edited k) = plain (0 ∷ []) (omega arith) (small-one 0 (omega arith))
 
@@ -118,64 +126,109 @@ module _ (s : Sheet) (v : Sound s) where
           (small-more 0 _ (omega arith) (small-more 0 _ (omega arith) (small-more (e .lifts) _ l (small-more (e .pushes) _ p
           (group-small machines (f .shows .group))))))
 
-  try-fits : (a : ℕ) (b : Bool) → Fitting (isPlan (tryAnswer b (bookOf s) a)) (answerNumbers (tryAnswer b (bookOf s) a))
+  try-fits : (a : ℕ) (b : Bool) → Fitting (isSettle (tryAnswer b (bookOf s) a)) (answerNumbers (tryAnswer b (bookOf s) a))
   try-fits a true = tried-fits a (outcome (instance (bookOf s)) (places (bookOf s)) (view-valid s v) (view-permitted s v) a)
   try-fits a false = refusal-fits N.levelAbove
 
-  plan-small : SixColumns (planBook (bookOf s) .group)
-  unfolding plan
-  plan-small = showing-small machines (plan-showing (instance (bookOf s)) (places (bookOf s)) (view-valid s v) (view-permitted s v))
+  -- records: batches, and instruments
+  places-small : {x : List ℕ} → Permitted (instance (bookOf s)) x → (b : ℕ) → 0 < b → b ≤ size (bookOf s) → at x b < 1000000
+  places-small w b p q = omega (arith, on-machine (view-valid s v) w b p (omega (arith, jobs-count (bookOf s))) .1, machines)
 
-  planned-fits : Fitting true (answerNumbers (planned (planBook (bookOf s))))
-  planned-fits =
-      let p = planBook (bookOf s) in
-      let f = plan-fits s v in
+  moves-small : (c : ℕ) (x y : List ℕ) → c ≤ 200 → ((b : ℕ) → 0 < b → b ≤ c → at x b < 1000000)
+      → ((b : ℕ) → 0 < b → b ≤ c → at y b < 1000000) → SixColumns (moveNumbers (records c x y))
+  unfolding records thoseTo moveNumbers
+  moves-small zero x y h p q = small-none
+  moves-small (suc c) x y h p q =
+      let before = moves-small c x y (omega arith) (λ b l u. p b l (omega arith)) (λ b l u. q b l (omega arith)) in
+      byTest (eqb (at x (suc c)) (at y (suc c)))
+      (λ t. rw (records-same c x y (eqb-true _ _ t)) before)
+      (λ t. rw (records-other c x y (eqb-false _ _ t), numbers-append (records c x y) (moveOf x y (suc c)))
+      (every-append (λ (i : ℕ). ltb i 1000000) (moveNumbers (records c x y)) _ before
+      (small-more (suc c) _ (omega arith)
+      (small-more (at x (suc c)) _ (p (suc c) (omega arith) (le-refl (suc c)))
+      (small-one (at y (suc c)) (q (suc c) (omega arith) (le-refl (suc c))))))))
+
+  module _ (x : List ℕ) (w : Permitted (instance (bookOf s)) x) where
+    abbrev l : List Move
+    l = recordsTo (bookOf s) x
+
+    few-batches : size (bookOf s) ≤ 200
+    few-batches = omega (arith, view-batches s v, jobs-count (bookOf s))
+
+    few-records : length (recordNumbers l) ≤ 601
+    few-records = omega (arith, numbers-length l, records-few (size (bookOf s)) (places (bookOf s)) x, few-batches)
+
+    records-small : SixColumns (recordNumbers l)
+    records-small =
+        small-more (length l) _ (omega (arith, records-few (size (bookOf s)) (places (bookOf s)) x, few-batches))
+        (moves-small (size (bookOf s)) (places (bookOf s)) x few-batches (places-small (view-permitted s v)) (places-small w))
+
+  balanced-fits : (t : Bool) → Fitting (isSettle (balanceAnswer t (bookOf s))) (answerNumbers (balanceAnswer t (bookOf s)))
+  balanced-fits true =
+      let b = balanceBook (bookOf s) in
+      let f = balance-fits s v in
+      let w = balanced-permitted (instance (bookOf s)) (places (bookOf s)) (view-valid s v) (view-permitted s v) in
+      let g = showing-small machines (balanced-showing (instance (bookOf s)) (places (bookOf s)) (view-valid s v) (view-permitted s v)) in
+      plain _
+      (omega (arith, length-append (b .group) (recordNumbers (l (b .assignment) w)), few-records (b .assignment) w, f .few))
+      (small-more 0 _ (omega arith)
+      (small-more (b .makespan) _ (f .makespan)
+      (small-more (b .lowerBound) _ (f .bound)
+      (small-more (b .level) _ (f .level)
+      (small-more (b .lifts) _ (f .lifts)
+      (small-more (b .pushes) _ (f .pushes)
+      (small-more (length (b .group)) _ (omega (arith, f .few))
+      (every-append (λ (i : ℕ). ltb i 1000000) (b .group) _ g (records-small (b .assignment) w)))))))))
+  balanced-fits false = refusal-fits N.bufferShort
+
+  settled-fits : (t : Bool) → Fitting (isSettle (settleAnswer t (bookOf s))) (answerNumbers (settleAnswer t (bookOf s)))
+  settled-fits true =
+      let z = settleBook (bookOf s) in
+      let f = settle-fits s v in
+      let w = rested-permitted (view-valid s v) (view-permitted s v) in
       record {
-        few = omega (arith, f .few);
+        few = omega (arith, few-records (z .assignment) w);
         plain = λ e. conflict refl e;
-        start = λ e.
-            small-more 0 _ (omega arith)
-            (small-more (p .makespan) _ (f .makespan)
-            (small-more (p .lowerBound) _ (f .bound)
-            (small-more (p .level) _ (f .level)
-            (small-more (p .lifts) _ (f .lifts)
-            (small-one (p .pushes) (f .pushes))))));
+        start = λ e. small-more 0 _ (omega arith) (small-one (z .makespan) (f .makespan));
         moves = λ e. f .moves;
-        rest = λ e. small-more (length (p .group)) _ (omega (arith, f .few)) plan-small;
+        rest = λ e. records-small (z .assignment) w;
         least = λ e. omega arith;
       }
+  settled-fits false = refusal-fits N.bufferShort
 
-  pub answer-fits : (c : Call) → Fitting (isPlan (answer (bookOf s) c)) (answerNumbers (answer (bookOf s) c))
+  pub answer-fits : (c : Call) → Fitting (isSettle (answer (bookOf s) c)) (answerNumbers (answer (bookOf s) c))
   unfolding answer
   answer-fits (R.editing e) = edit-fits (E.edit (bookOf s) e)
   answer-fits R.reviewing = review-fits
   answer-fits (R.trying a) = try-fits a (leb a (total (instance (bookOf s))))
-  answer-fits R.planning = planned-fits
+  answer-fits (R.balancing c) = balanced-fits (roomy (bookOf s) c)
+  answer-fits (R.settling c) = settled-fits (roomy (bookOf s) c)
 
 -- ---- the line
 
-pub line-is : (a : Answer) → lineOf (isPlan a) (answerNumbers a) ≡ answerLine a
+pub line-is : (a : Answer) → lineOf (isSettle a) (answerNumbers a) ≡ answerLine a
 line-is (refused e) = refl
 line-is done = refl
 line-is (reviewed v) = refl
 line-is (tried t) = refl
-line-is (planned p) = refl
+line-is (balanced b l) = refl
+line-is (settled z l) = refl
 
 pub line-of-length : (p : Bool) (l : List ℕ) → Fitting p l → length (lineOf p l) ≡ lineLength p (length l)
 line-of-length false l f = line-length l
 line-of-length true l f =
     let h = f .least refl in
-    let a = fields (take 6 l) in
-    let b = columns 12 (getD l 6 0) in
+    let a = fields (take 2 l) in
+    let b = columns 12 (getD l 2 0) in
     omega (
       arith,
-      length-append a (b ++ line (drop 7 l)),
-      length-append b (line (drop 7 l)),
-      length-append (a ++ b) (line (drop 7 l)),
+      length-append a (b ++ line (drop 3 l)),
+      length-append b (line (drop 3 l)),
+      length-append (a ++ b) (line (drop 3 l)),
       length-append a b,
-      fields-length (take 6 l),
-      columns-length 12 (getD l 6 0),
-      line-length (drop 7 l),
-      length-take-le 6 l (omega arith),
-      length-drop 7 l,
+      fields-length (take 2 l),
+      columns-length 12 (getD l 2 0),
+      line-length (drop 3 l),
+      length-take-le 2 l (omega arith),
+      length-drop 3 l,
     )

@@ -18,7 +18,7 @@ use Rattle.text.proofs.Pasted.{Wrote, wrote-none, wrote-more, wrote-start}
 use Rattle.journal.specs.declared.entry.Entry.{Entry}
 use Rattle.journal.specs.declared.call.Made.{Made}
 use Rattle.journal.specs.Entry.{entryAs, entryOf, linesFrom}
-use Rattle.journal.specs.Answering.{callSaid, madeOf, isPlan, lineOf, lineLength, Fitting}
+use Rattle.journal.specs.Answering.{callSaid, madeOf, isSettle, lineOf, lineLength, Fitting}
 use Rattle.journal.specs.Running.{Spells, textOf, bookLeft}
 use Rattle.journal.proofs.Calls.{EntryRead, count-kept}
 use Rattle.journal.proofs.Linewise.{journal-is, entry-given, lines-first, lines-fault, lines-end}
@@ -30,12 +30,12 @@ use Rattle.journal.proofs.Fitting.{answer-fits, line-is, line-of-length
 pub record Answered (k : Book) (c : Call) (m : Made) : Type 0 where
   pub sheet : m .sheet ≡ sheetOf (next k c)
   pub numbers : take (m .size) (m .numbers) ≡ answerNumbers (answer k c)
-  pub few : m .size ≤ 204
+  pub few : m .size ≤ 632
   pub whole : m .size ≤ length (m .numbers)
   pub long : length (take (m .size) (m .numbers)) ≡ m .size
-  pub inColumns : Fitting (m .plan) (take (m .size) (m .numbers))
-  pub text : lineOf (m .plan) (take (m .size) (m .numbers)) ≡ answerLine (answer k c)
-  pub bytes : length (answerLine (answer k c)) ≡ lineLength (m .plan) (m .size)
+  pub inColumns : Fitting (m .settle) (take (m .size) (m .numbers))
+  pub text : lineOf (m .settle) (take (m .size) (m .numbers)) ≡ answerLine (answer k c)
+  pub bytes : length (answerLine (answer k c)) ≡ lineLength (m .settle) (m .size)
 
 module _ (s : Sheet) (v : Sound s) (c : Call) where
   made-is : Answered (bookOf s) c (madeOf (bookOf s) c)
@@ -44,16 +44,16 @@ module _ (s : Sheet) (v : Sound s) (c : Call) where
       let a = answer (bookOf s) c in
       let l = answerNumbers a in
       let f = answer-fits s v c in
-      let e : take (length l) (padded 204 l) ≡ l = take-at l (replicate (204 - length l) 0) (length l) refl in
+      let e : take (length l) (padded 632 l) ≡ l = take-at l (replicate (632 - length l) 0) (length l) refl in
       record {
         sheet = refl;
         numbers = e;
         few = f .few;
-        whole = omega (arith, f .few, length-padded 204 l (f .few));
+        whole = omega (arith, f .few, length-padded 632 l (f .few));
         long = ap length e;
         inColumns = rw e f;
         text = rw e (line-is a);
-        bytes = ap length (sym (line-is a)) ∙ line-of-length (isPlan a) l f;
+        bytes = ap length (sym (line-is a)) ∙ line-of-length (isSettle a) l f;
       }
 
   -- of the call of a line
@@ -162,7 +162,7 @@ module _ {k : Book} {j : List ℕ} {s : Sheet} {at : ℕ} (g : Going k j s at) w
           after = turn-after;
         }
 
-    pub turn-written : length (going-on .written) ≡ length (g .written) + lineLength (m .plan) (m .size)
+    pub turn-written : length (going-on .written) ≡ length (g .written) + lineLength (m .settle) (m .size)
     unfolding going-on
     turn-written =
         let l = answerLine (answer (bookOf s) (t .given .call)) in
@@ -170,17 +170,17 @@ module _ {k : Book} {j : List ℕ} {s : Sheet} {at : ℕ} (g : Going k j s at) w
 
     -- its line behind the lines before it
     pub turn-wrote : {d e₁ e₂ : List ℕ} {to n : ℕ} → Wrote d 0 (g .written) to e₁
-        → length (g .written) + lineLength (m .plan) (m .size) ≤ length d → n ≡ to + lineLength (m .plan) (m .size)
-        → e₂ ≡ paste e₁ to (lineOf (m .plan) (take (m .size) (m .numbers))) (lineLength (m .plan) (m .size))
+        → length (g .written) + lineLength (m .settle) (m .size) ≤ length d → n ≡ to + lineLength (m .settle) (m .size)
+        → e₂ ≡ paste e₁ to (lineOf (m .settle) (take (m .size) (m .numbers))) (lineLength (m .settle) (m .size))
         → Wrote d 0 (going-on .written) n e₂
     unfolding going-on
     turn-wrote {to = to} {n = n} w r q f =
         let l = answerLine (answer (bookOf s) (t .given .call)) in
         let z : to ≡ 0 + to = omega arith in
-        wrote-more l to (lineLength (m .plan) (m .size)) n w z q (a .bytes) (omega (arith, w .size)) (rw (a .text) at f)
+        wrote-more l to (lineLength (m .settle) (m .size)) n w z q (a .bytes) (omega (arith, w .size)) (rw (a .text) at f)
 
     -- it fits where the whole text does
-    pub turn-room : length (g .written) + lineLength (m .plan) (m .size) ≤ length (textOf k (journal j))
+    pub turn-room : length (g .written) + lineLength (m .settle) (m .size) ≤ length (textOf k (journal j))
     turn-room =
         let l = answerLine (answer (bookOf s) (t .given .call)) in
         let r = answerLines (answers (bookOf (m .sheet)) (t .rest)) in

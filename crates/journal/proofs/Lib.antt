@@ -4,6 +4,7 @@ pub mod Linewise
 pub mod Entering
 pub mod Said
 pub mod Replies
+pub mod Recording
 pub mod Small
 pub mod Fitting
 pub mod Going

@@ -1,12 +1,13 @@
 -- What each call's function returns, as the numbers of its answer on the sheet's book.
-use Prim.Native.Nat.{ℕ, _≤_}
+use Prim.Native.Nat.{ℕ, _-_, _≤_, _<_}
 use mathlib.Core.Path.{_≡_, refl, sym, ap, _∙_}
 use mathlib.Core.Bool.{Bool, true, false}
-use mathlib.Core.List.{List, [], _∷_}
+use mathlib.Core.List.{List, [], _∷_, _++_}
 use native.Mathlib.Omega.{arith}
 use lib.Dec.{leb}
-use lib.ListN.{length, take}
-use borrow.Author.Tests.{eq-eqb, ne-eqb}
+use lib.ListN.{length, take, replicate}
+use lib.Seq.{take-at}
+use borrow.Author.Tests.{le-leb, lt-leb, eq-eqb, ne-eqb}
 use Rattle.rules.specs.Sheet.{Book, size}
 use Rattle.rules.specs.Edit as E
 use Rattle.rules.specs.Instance.{instance, places, n}
@@ -14,52 +15,53 @@ use Rattle.rules.specs.Load.{load, total, review}
 use Rattle.rules.specs.Fold.{listTo}
 use Rattle.rules.specs.Trial.{atLevel, ended}
 use Rattle.rules.specs.Group as G
-use Rattle.rules.specs.Run.{Call, answer, next, answerNumbers, editAnswer, tryAnswer, planBook}
+use Rattle.rules.specs.Run.{Call, answer, next, answerNumbers, editAnswer, tryAnswer, roomy, balanceAnswer, balanceBook}
 use Rattle.rules.specs.Run as R
 use Rattle.theory.proofs.Sound.{jobs-count}
 use Rattle.theory.proofs.Trial.{Outcome, passes, fails, outcome, trial-permitted}
 use Rattle.sheet.specs.declared.Sheet.{Sheet}
 use Rattle.sheet.specs.declared.Edited.{Edited}
-use Rattle.sheet.specs.Represent.{Sound, sheetOf, bookOf}
+use Rattle.sheet.specs.Represent.{Sound, padded, sheetOf, bookOf}
 use Rattle.sheet.specs.Answers.{numberOf, editOf}
 use Rattle.theory.proofs.Entries.{length-listTo}
 use Rattle.sheet.proofs.Padded.{length-padded}
 use Rattle.sheet.proofs.SoundViews.{view-instruments, view-batches, view-valid, view-permitted}
 use Rattle.planner.specs.declared.Tried.{Tried}
-use Rattle.planner.specs.declared.Planned.{Planned}
+use Rattle.planner.specs.declared.Balanced.{Balanced}
+use Rattle.planner.specs.declared.Settled.{Settled}
 use Rattle.planner.specs.declared.Reviewed.{Reviewed}
-use Rattle.sheet.proofs.Answered.{edit-answered}
-use Rattle.planner.specs.Calls.{Reply, replyNumbers, reviewOf, trialOf, planOf, trialAnswer, triedAs, ReviewAnswered, TrialAnswered, PlanAnswered}
-use Rattle.planner.specs.Runs.{Link, editing, reviewing, trying, planning}
-use Rattle.planner.proofs.Runs.{link-answer, link-next}
-use Rattle.planner.proofs.Figures.{group-few, plan-fits}
-use Rattle.journal.specs.Answering.{madeWith, madeOf, isPlan, reviewNumbers, trialNumbers, plannedNumbers}
+use Rattle.sheet.proofs.Answered.{edit-answered, edit-next}
+use Rattle.planner.specs.Calls.{reviewOf, trialOf, balanceOf, settleOf, trialAnswer, triedAs, ReviewAnswered, TrialAnswered}
+use Rattle.planner.proofs.Figures.{group-few, balance-fits}
+use Rattle.planner.proofs.Changes.{balance-change, settle-change}
+use Rattle.moves.specs.declared.Change.{Change}
+use Rattle.journal.specs.Answering.{madeWith, madeOf, isSettle, reviewNumbers, trialNumbers, balancedNumbers, changeNumbers}
 
--- ---- only planning answers a plan
+-- ---- only settle has a wider number
 
-edit-plain : (k : Book) (e : E.Edit) → isPlan (answer k (R.editing e)) ≡ false
+edit-plain : (k : Book) (e : E.Edit) → isSettle (answer k (R.editing e)) ≡ false
 unfolding answer
 edit-plain k e = from (E.edit k e)
   where
-    from : (o : E.Edited) → isPlan (editAnswer o) ≡ false
+    from : (o : E.Edited) → isSettle (editAnswer o) ≡ false
     from (E.refused r) = refl
     from (E.edited j) = refl
 
-trial-plain : (k : Book) (a : ℕ) → isPlan (answer k (R.trying a)) ≡ false
+trial-plain : (k : Book) (a : ℕ) → isSettle (answer k (R.trying a)) ≡ false
 unfolding answer
 trial-plain k a = from (leb a (total (instance k)))
   where
-    from : (t : Bool) → isPlan (tryAnswer t k a) ≡ false
+    from : (t : Bool) → isSettle (tryAnswer t k a) ≡ false
     from true = refl
     from false = refl
 
-review-plain : (k : Book) → isPlan (answer k R.reviewing) ≡ false
+review-plain : (k : Book) → isSettle (answer k R.reviewing) ≡ false
 unfolding answer
 review-plain k = refl
 
-plan-plain : (k : Book) → isPlan (answer k R.planning) ≡ true
-unfolding answer
-plan-plain k = refl
+balance-plain : (k : Book) (t : Bool) → isSettle (balanceAnswer t k) ≡ false
+balance-plain k true = refl
+balance-plain k false = refl
 
 -- ---- a trial by its cases
 
@@ -84,32 +86,61 @@ pub record Long (t : Tried) : Type 0 where
 -- ---- each call on a sound sheet
 
 module _ (s : Sheet) (v : Sound s) where
-  linked : {c : Call} {r : Reply} {t : Sheet} (p : Bool) → Link s c r t → isPlan (answer (bookOf s) c) ≡ p
-      → madeWith t (replyNumbers (bookOf s) r) p ≡ madeOf (bookOf s) c
+  made : (c : Call) {t : Sheet} (l : List ℕ) (p : Bool) → t ≡ sheetOf (next (bookOf s) c) → l ≡ answerNumbers (answer (bookOf s) c)
+      → isSettle (answer (bookOf s) c) ≡ p → madeWith t l p ≡ madeOf (bookOf s) c
   unfolding madeOf
-  linked {c} {r} {t} p l e =
-      let k = bookOf s in
-      ap (λ (x : Sheet). madeWith x (replyNumbers k r) p) (link-next k (sym (v .arrays)) refl l)
-      ∙ ap (λ (d : List ℕ). madeWith (sheetOf (next k c)) d p) (link-answer k refl l)
-      ∙ ap (λ (q : Bool). madeWith (sheetOf (next k c)) (answerNumbers (answer k c)) q) (sym e)
+  made c l p e f g = rw (e, f, g)
 
   pub made-edit : (e : E.Edit) (r : Edited) → r ≡ editOf s e
       → madeWith (r .sheet) (numberOf (r .refusal) ∷ []) false ≡ madeOf (bookOf s) (R.editing e)
-  made-edit e r q = linked false (editing s e r (edit-answered q)) (edit-plain (bookOf s) e)
+  made-edit e r q =
+      made (R.editing e) _ false (ap (λ (x : Edited). x .sheet) q ∙ edit-next (bookOf s) s e refl (sym (v .arrays))) (edit-answered q .numbers) (edit-plain (bookOf s) e)
 
   pub made-review : (r : Reviewed) (m : ℕ) → ReviewAnswered (bookOf s) r → m ≡ instance (bookOf s) .m
       → madeWith s (reviewNumbers m r) false ≡ madeOf (bookOf s) R.reviewing
+  unfolding next
   made-review r m q e =
-      ap (λ (i : ℕ). madeWith s (reviewNumbers i r) false) e ∙ linked false (reviewing s r q) (review-plain (bookOf s))
+      ap (λ (i : ℕ). madeWith s (reviewNumbers i r) false) e ∙ made R.reviewing _ false (sym (v .arrays)) (q .numbers) (review-plain (bookOf s))
 
   pub made-trial : (a : ℕ) (r : Tried) (c : ℕ) → TrialAnswered (bookOf s) a r → c ≡ n (instance (bookOf s))
       → madeWith s (trialNumbers c r) false ≡ madeOf (bookOf s) (R.trying a)
+  unfolding next
   made-trial a r c q e =
       ap (λ (i : ℕ). madeWith s (trialNumbers i r) false) (e ∙ jobs-count (bookOf s))
-      ∙ linked false (trying s a r q) (trial-plain (bookOf s) a)
+      ∙ made (R.trying a) _ false (sym (v .arrays)) (q .numbers) (trial-plain (bookOf s) a)
 
-  pub made-plan : (r : Planned) → PlanAnswered (bookOf s) r → madeWith (r .sheet) (plannedNumbers r) true ≡ madeOf (bookOf s) R.planning
-  made-plan r q = linked true (planning s r q) (plan-plain (bookOf s))
+  -- ---- balance and settle, where the lent list has c entries
+
+  module _ (c : ℕ) where
+    short : c < n (instance (bookOf s)) → roomy (bookOf s) c ≡ false
+    short h = lt-leb (size (bookOf s)) c (omega (arith, jobs-count (bookOf s)))
+
+    pub balance-short : c < n (instance (bookOf s)) → madeWith s (9 ∷ []) false ≡ madeOf (bookOf s) (R.balancing c)
+    unfolding answer next
+    balance-short h = made (R.balancing c) (9 ∷ []) false (rw (short h) (sym (v .arrays))) (rw (short h)) (rw (short h))
+
+    pub settle-short : c < n (instance (bookOf s)) → madeWith s (9 ∷ []) false ≡ madeOf (bookOf s) (R.settling c)
+    unfolding answer next
+    settle-short h = made (R.settling c) (9 ∷ []) false (rw (short h) (sym (v .arrays))) (rw (short h)) (rw (short h))
+
+    module _ (d : Change) (e : d .n ≡ n (instance (bookOf s))) (f : d .old ≡ padded 200 (places (bookOf s))) (h : d .n ≤ c) where
+      enough : roomy (bookOf s) c ≡ true
+      enough = le-leb (size (bookOf s)) c (omega (arith, jobs-count (bookOf s)))
+
+      pub made-balance : (b : Balanced) → b ≡ balanceOf (bookOf s) → d .new ≡ padded 200 (places (bookOf (b .sheet)))
+          → madeWith (b .sheet) (balancedNumbers b ++ changeNumbers d) false ≡ madeOf (bookOf s) (R.balancing c)
+      unfolding answer next balanceOf
+      made-balance b q g =
+          let l = balance-change s v b q (d .n) (d .old) (d .new) e f g in
+          let group = balanceBook (bookOf s) .group in
+          made (R.balancing c) (balancedNumbers b ++ changeNumbers d) false (rw (enough, q)) (rw (enough, l, q, take-at group (replicate (24 - length group) 0) (length group) refl)) (rw enough)
+
+      pub made-settle : (z : Settled) → z ≡ settleOf (bookOf s) → d .new ≡ padded 200 (places (bookOf (z .sheet)))
+          → madeWith (z .sheet) (0 ∷ z .makespan ∷ z .moves ∷ changeNumbers d) true ≡ madeOf (bookOf s) (R.settling c)
+      unfolding answer next settleOf
+      made-settle z q g =
+          let l = settle-change s v z q (d .n) (d .old) (d .new) e f g in
+          made (R.settling c) (0 ∷ z .makespan ∷ z .moves ∷ changeNumbers d) true (rw (enough, q)) (rw (enough, l, q)) (rw enough)
 
   -- ---- the arrays are long enough
 
@@ -143,6 +174,6 @@ module _ (s : Sheet) (v : Sound s) where
   unfolding trialOf answer
   trial-long a r q = rw q (try-long a (leb a (total (instance (bookOf s)))))
 
-  pub plan-long : (r : Planned) → r ≡ planOf (bookOf s) → (r .size ≤ 24) × (length (r .group) ≡ 24)
-  unfolding planOf
-  plan-long r q = let f = plan-fits s v .few in rw q (f, length-padded 24 (planBook (bookOf s) .group) f)
+  pub balance-long : (b : Balanced) → b ≡ balanceOf (bookOf s) → (b .size ≤ 24) × (length (b .group) ≡ 24)
+  unfolding balanceOf
+  balance-long b q = let f = balance-fits s v .few in rw q (f, length-padded 24 (balanceBook (bookOf s) .group) f)

@@ -11,13 +11,13 @@ use borrow.Author.Tests.{leb-true, leb-false, lt-leb, ne-eqb}
 use Rattle.rules.specs.Fold.{_and_}
 use Rattle.rules.specs.Sheet.{Book, sound, goodInstruments, goodList}
 use Rattle.rules.specs.Edit.{Edit, Edited, add, withdraw, requalify, move, edit}
-use Rattle.rules.specs.Run.{Call, editing, reviewing, trying, planning, answer, next, answerNumbers, editAnswer, editBook}
+use Rattle.rules.specs.Run.{Call, editing, reviewing, trying, balancing, settling, answer, next, answerNumbers, editAnswer, editBook}
 use Rattle.theory.proofs.Logic.{byTest, and-right}
 use Rattle.theory.proofs.Sound.{sound-is}
 use Rattle.sheet.specs.Represent.{sheetOf}
 use Rattle.journal.specs.declared.entry.Entry.{Entry}
 use Rattle.journal.specs.Entry.{entryOf}
-use Rattle.journal.specs.Answering.{editSaid, callSaid, madeWith, madeOf, isPlan}
+use Rattle.journal.specs.Answering.{editSaid, callSaid, madeWith, madeOf, isSettle}
 use Rattle.journal.proofs.Numbers.{row-front}
 
 -- ---- the first 25 of a list
@@ -58,7 +58,7 @@ module _ (k : Book) (v : sound k ≡ true) (l : List ℕ) where
 
 made-edits : (k : Book) (e f : Edit) → edit k e ≡ edit k f → madeOf k (editing e) ≡ madeOf k (editing f)
 unfolding madeOf answer next
-made-edits k e f q = ap (λ (o : Edited). madeWith (sheetOf (editBook k o)) (answerNumbers (editAnswer o)) (isPlan (editAnswer o))) q
+made-edits k e f q = ap (λ (o : Edited). madeWith (sheetOf (editBook k o)) (answerNumbers (editAnswer o)) (isSettle (editAnswer o))) q
 
 pub made-said : (k : Book) → sound k ≡ true → (c : Call) (n : ℕ) → madeOf k (callSaid (entryOf c n)) ≡ madeOf k c
 unfolding callSaid editSaid
@@ -70,7 +70,8 @@ made-said k v (editing (requalify b l)) n =
 made-said k v (editing (move b i)) n = refl
 made-said k v reviewing n = refl
 made-said k v (trying a) n = refl
-made-said k v planning n = refl
+made-said k v (balancing c) n = refl
+made-said k v (settling c) n = refl
 
 -- ---- the call by the kind
 
@@ -100,10 +101,14 @@ module _ (e : Entry) where
   unfolding callSaid
   said-trial p = rw p
 
-  pub said-plan : e .kind ≡ 7 → planning ≡ callSaid e
+  pub said-balance : e .kind ≡ 7 → balancing (e .a) ≡ callSaid e
   unfolding callSaid
-  said-plan p = rw p
+  said-balance p = rw p
 
-  pub said-edit : (e .kind ≡ 5 → ⊥) → (e .kind ≡ 6 → ⊥) → (e .kind ≡ 7 → ⊥) → editing (editSaid e) ≡ callSaid e
+  pub said-settle : e .kind ≡ 8 → settling (e .a) ≡ callSaid e
   unfolding callSaid
-  said-edit p q r = rw (ne-eqb (e .kind) 5 p, ne-eqb (e .kind) 6 q, ne-eqb (e .kind) 7 r)
+  said-settle p = rw p
+
+  pub said-edit : (e .kind ≡ 5 → ⊥) → (e .kind ≡ 6 → ⊥) → (e .kind ≡ 7 → ⊥) → (e .kind ≡ 8 → ⊥) → editing (editSaid e) ≡ callSaid e
+  unfolding callSaid
+  said-edit p q r t = rw (ne-eqb (e .kind) 5 p, ne-eqb (e .kind) 6 q, ne-eqb (e .kind) 7 r, ne-eqb (e .kind) 8 t)

@@ -1,4 +1,4 @@
--- The call of a line, and its answer as the code has it: the sheet after the call, and the answer's numbers in 204 entries.
+-- The call of a line, and its answer as the code has it: the sheet after the call, and the answer's numbers in 632 entries.
 use Prim.Native.Nat.{ℕ, _+_, _*_, _<_, _≤_, _^_}
 use mathlib.Core.Path.{_≡_}
 use mathlib.Core.Bool.{Bool, true, false}
@@ -9,12 +9,14 @@ use Rattle.rules.specs.Fold.{pick, every}
 use Rattle.rules.specs.Sheet.{Book}
 use Rattle.rules.specs.Render.{columns, fields, line}
 use Rattle.rules.specs.Edit.{Edit, add, withdraw, requalify, move}
-use Rattle.rules.specs.Run.{Call, editing, reviewing, trying, planning, Answer, refused, done, reviewed, tried, planned, answer, next, answerNumbers}
+use Rattle.rules.specs.Moves.{records, moveNumbers}
+use Rattle.rules.specs.Run.{Call, editing, reviewing, trying, balancing, settling, Answer, refused, done, reviewed, tried, balanced, settled, answer, next, answerNumbers, recordNumbers}
 use Rattle.sheet.specs.declared.Sheet.{Sheet}
 use Rattle.sheet.specs.Represent.{padded, sheetOf}
 use Rattle.sheet.specs.Answers.{numberOf}
 use Rattle.planner.specs.declared.Tried.{Tried}
-use Rattle.planner.specs.declared.Planned.{Planned}
+use Rattle.moves.specs.declared.Change.{Change}
+use Rattle.planner.specs.declared.Balanced.{Balanced}
 use Rattle.planner.specs.declared.Reviewed.{Reviewed}
 use Rattle.journal.specs.declared.entry.Entry.{Entry}
 use Rattle.journal.specs.declared.call.Made.{Made}
@@ -32,24 +34,26 @@ unfoldable pub callSaid : Entry → Call
 callSaid e =
     pick (eqb (e .kind) 5) reviewing
     (pick (eqb (e .kind) 6) (trying (e .a))
-    (pick (eqb (e .kind) 7) planning
-    (editing (editSaid e))))
+    (pick (eqb (e .kind) 7) (balancing (e .a))
+    (pick (eqb (e .kind) 8) (settling (e .a))
+    (editing (editSaid e)))))
 
 -- ---- the answer's numbers in an array, zeros after them
 
 abbrev pub madeWith : Sheet → List ℕ → Bool → Made
-madeWith s l p = record { sheet = s; size = length l; numbers = padded 204 l; plan = p }
+madeWith s l p = record { sheet = s; size = length l; numbers = padded 632 l; settle = p }
 
-abbrev pub isPlan : Answer → Bool
-isPlan (refused e) = false
-isPlan done = false
-isPlan (reviewed v) = false
-isPlan (tried t) = false
-isPlan (planned p) = true
+abbrev pub isSettle : Answer → Bool
+isSettle (refused e) = false
+isSettle done = false
+isSettle (reviewed v) = false
+isSettle (tried t) = false
+isSettle (balanced b l) = false
+isSettle (settled z l) = true
 
 -- what a call on the book makes
 unfoldable pub madeOf : Book → Call → Made
-madeOf k c = madeWith (sheetOf (next k c)) (answerNumbers (answer k c)) (isPlan (answer k c))
+madeOf k c = madeWith (sheetOf (next k c)) (answerNumbers (answer k c)) (isSettle (answer k c))
 
 -- of each reply
 abbrev pub reviewNumbers : ℕ → Reviewed → List ℕ
@@ -61,15 +65,22 @@ trialNumbers n r =
     (0 ∷ pick (r .passed) (1 ∷ r .lifts ∷ r .pushes ∷ take n (r .places)) (0 ∷ r .lifts ∷ r .pushes ∷ take (r .size) (r .group)))
     (numberOf (r .refusal) ∷ [])
 
-abbrev pub plannedNumbers : Planned → List ℕ
-plannedNumbers r =
-    0 ∷ r .makespan ∷ r .bound ∷ r .level ∷ r .lifts ∷ r .pushes ∷ r .moves ∷ r .size ∷ take (r .size) (r .group)
+abbrev pub balancedNumbers : Balanced → List ℕ
+balancedNumbers b =
+    0 ∷ b .makespan ∷ b .bound ∷ b .level ∷ b .lifts ∷ b .pushes ∷ b .size ∷ take (b .size) (b .group)
 
--- ---- the answer's line: six columns for each number, but twelve for the seventh of a plan, its moves
+-- of a change: its records, and how many they are before them
+abbrev pub movesNumbers : Change → List ℕ
+movesNumbers c = moveNumbers (records (c .n) (c .old) (c .new))
+
+abbrev pub changeNumbers : Change → List ℕ
+changeNumbers c = recordNumbers (records (c .n) (c .old) (c .new))
+
+-- ---- the answer's line: six columns for each number, but twelve for the third of settle's, its moves
 
 abbrev pub lineOf : Bool → List ℕ → List ℕ
 lineOf false l = line l
-lineOf true l = fields (take 6 l) ++ columns 12 (getD l 6 0) ++ line (drop 7 l)
+lineOf true l = fields (take 2 l) ++ columns 12 (getD l 2 0) ++ line (drop 3 l)
 
 abbrev pub lineLength : Bool → ℕ → ℕ
 lineLength false size = 6 * size + 1
@@ -81,9 +92,9 @@ SixColumns l = every (λ (x : ℕ). ltb x 1000000) l ≡ true
 
 -- each number fits its columns, and all fit the array
 pub record Fitting (p : Bool) (l : List ℕ) : Type 0 where
-  pub few : length l ≤ 204
+  pub few : length l ≤ 632
   pub plain : p ≡ false → SixColumns l
-  pub start : p ≡ true → SixColumns (take 6 l)
-  pub moves : p ≡ true → getD l 6 0 < 10 ^ 12
-  pub rest : p ≡ true → SixColumns (drop 7 l)
-  pub least : p ≡ true → 8 ≤ length l
+  pub start : p ≡ true → SixColumns (take 2 l)
+  pub moves : p ≡ true → getD l 2 0 < 10 ^ 12
+  pub rest : p ≡ true → SixColumns (drop 3 l)
+  pub least : p ≡ true → 4 ≤ length l

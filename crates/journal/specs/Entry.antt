@@ -5,7 +5,7 @@ use mathlib.Core.List.{List, []}
 use lib.ListN.{length, take, replicate}
 use Rattle.rules.specs.Read.{Part, gives, refuses, andThen, numberAt}
 use Rattle.rules.specs.Edit.{add, withdraw, requalify, move}
-use Rattle.rules.specs.Run.{Call, editing, reviewing, trying, planning}
+use Rattle.rules.specs.Run.{Call, editing, reviewing, trying, balancing, settling}
 use Rattle.rules.specs.Journal.{Journal, calls, faulty, listAt, linesBy}
 use Rattle.sheet.specs.Represent.{padded}
 use Rattle.journal.specs.declared.entry.Entry.{Entry}
@@ -31,7 +31,8 @@ entryOf (editing (requalify b l)) next = entryWith 3 b 0 l next
 entryOf (editing (move b i)) next = entryWith 4 b i [] next
 entryOf reviewing next = entryWith 5 0 0 [] next
 entryOf (trying a) next = entryWith 6 a 0 [] next
-entryOf planning next = entryWith 7 0 0 [] next
+entryOf (balancing c) next = entryWith 7 c 0 [] next
+entryOf (settling c) next = entryWith 8 c 0 [] next
 
 -- nothing but the fault
 abbrev pub noEntry : Entry

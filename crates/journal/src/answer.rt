@@ -10,11 +10,11 @@ use text::put_columns;
 use text::put_end;
 
 // How many bytes the line of size numbers has.
-pub fn line_length(plan: bool, size: usize) -> usize
-    requires { ⌜ size ≤ 204 ⌝ }
-    ensures { λ r. ⌜ r ≡ lineLength plan size ⌝ }
+pub fn line_length(settle: bool, size: usize) -> usize
+    requires { ⌜ size ≤ 632 ⌝ }
+    ensures { λ r. ⌜ r ≡ lineLength settle size ⌝ }
 {
-    if plan {
+    if settle {
         return 6 * size + 7;
     }
     6 * size + 1
@@ -46,25 +46,25 @@ fn put_line(out: &mut [u8], at: usize, numbers: &[u64])
     put_end(out, end);
 }
 
-// Writes a plan's line: twelve columns for the moves.
-fn put_plan(out: &mut [u8], at: usize, numbers: &[u64])
+// Writes the line of settle's answer: twelve columns for the moves.
+fn put_settle(out: &mut [u8], at: usize, numbers: &[u64])
     requires { ⌜ (at + (6 * length (now numbers) + 7) ≤ length (now out)) × Fitting true (now numbers) ⌝ }
     ensures { λ _. ⌜ now (out .exit)
         ≡ paste (now (out .entry)) at (lineOf true (now (numbers .entry))) (6 * length (now (numbers .entry)) + 7) ⌝ }
 {
-    put_numbers(out, at, &numbers[..6]);
-    put_columns(out, at + 36, 12, numbers[6]);
-    put_line(out, at + 48, &numbers[7..]);
+    put_numbers(out, at, &numbers[..2]);
+    put_columns(out, at + 12, 12, numbers[2]);
+    put_line(out, at + 24, &numbers[3..]);
 }
 
 // Writes an answer's line.
-pub fn put_answer(out: &mut [u8], at: usize, plan: bool, numbers: &[u64])
-    requires { ⌜ (at + lineLength plan (length (now numbers)) ≤ length (now out)) × Fitting plan (now numbers) ⌝ }
+pub fn put_answer(out: &mut [u8], at: usize, settle: bool, numbers: &[u64])
+    requires { ⌜ (at + lineLength settle (length (now numbers)) ≤ length (now out)) × Fitting settle (now numbers) ⌝ }
     ensures { λ _. ⌜ now (out .exit)
-        ≡ paste (now (out .entry)) at (lineOf plan (now (numbers .entry))) (lineLength plan (length (now (numbers .entry)))) ⌝ }
+        ≡ paste (now (out .entry)) at (lineOf settle (now (numbers .entry))) (lineLength settle (length (now (numbers .entry)))) ⌝ }
 {
-    if plan {
-        put_plan(out, at, numbers);
+    if settle {
+        put_settle(out, at, numbers);
         return;
     }
     put_line(out, at, numbers);

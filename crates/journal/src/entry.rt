@@ -199,7 +199,10 @@ fn call_at(s: &[u8], at: usize, kind: u32) -> Entry
         return one_number(s, at, 6);
     }
     if kind == 7 {
-        return Entry::plain(7, 0, 0, at);
+        return one_number(s, at, 7);
+    }
+    if kind == 8 {
+        return one_number(s, at, 8);
     }
     Entry::none()
 }

@@ -72,7 +72,7 @@ fn fits(sheet: Sheet, journal: &[u8], room: usize) -> bool
     while at < journal.len() {
         let e = entry_at(journal, at);
         let made = make(current, e);
-        let length = line_length(made.plan, made.size);
+        let length = line_length(made.settle, made.size);
         if left < length {
             return false;
         }
@@ -99,10 +99,10 @@ fn write_answers(sheet: Sheet, journal: &[u8], out: &mut [u8]) -> usize
         let made = make(current, call);
         let numbers = made.numbers;
         let size = made.size;
-        put_answer(out, to, made.plan, &numbers[..size]);
+        put_answer(out, to, made.settle, &numbers[..size]);
         let next = made.sheet;
         current = next;
-        to += line_length(made.plan, size);
+        to += line_length(made.settle, size);
         at = call.next;
     }
     to

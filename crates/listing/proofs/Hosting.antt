@@ -4,10 +4,9 @@ use mathlib.Core.Path.{_≡_, sym, ap, ap₂, _∙_}
 use mathlib.Core.List.{List, _++_}
 use lib.ListN.{length, drop}
 use Rattle.rules.specs.Sheet.{Book}
-use Rattle.rules.specs.Run.{planBook}
 use Rattle.rules.specs.Read.{accepted, read}
 use Rattle.rules.specs.Lent.{atFront, intoBuffer}
-use Rattle.rules.specs.Listing.{listing, host}
+use Rattle.rules.specs.Listing.{planBook, listing, host}
 use Rattle.sheet.specs.declared.Reading.{Reading}
 use Rattle.sheet.specs.Answers.{numberOf}
 use Rattle.text.proofs.Answer.{into-short, into-long}

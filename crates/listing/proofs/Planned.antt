@@ -1,5 +1,5 @@
--- The planner's answer and the sheet's arrays, as the listing shows them.
-use Prim.Native.Nat.{ℕ, zero, suc, _+_, _-_, _*_, _≤_}
+-- A plan and the sheet's arrays, as the listing shows them.
+use Prim.Native.Nat.{ℕ, zero, suc, _+_, _-_, _*_, _≤_, _<_, _^_}
 use mathlib.Core.Path.{_≡_, refl, sym, ap, _∙_}
 use mathlib.Core.List.{List, map}
 use native.Mathlib.Omega.{arith}
@@ -9,28 +9,28 @@ use Rattle.rules.specs.Fold.{at}
 use Rattle.rules.specs.Sheet.{Book, size, batch, noBatchHere}
 use Rattle.rules.specs.Instance.{Job, n, jobOf, instance, minutesOf}
 use Rattle.rules.specs.Instance as In
-use Rattle.rules.specs.Plan.{Plan}
-use Rattle.rules.specs.Run.{planBook, withPlaces}
-use Rattle.rules.specs.Listing.{listing}
+use Rattle.rules.specs.Plan.{Plan, plan}
+use Rattle.rules.specs.Run.{withPlaces, balanceBook}
+use Rattle.rules.specs.Listing.{planBook, listing}
 use Rattle.theory.proofs.Valid.{Permitted}
-use Rattle.theory.proofs.Sound.{jobs-count, placed-places}
-use Rattle.theory.proofs.Planning.{plan-permitted}
+use Rattle.theory.proofs.Sound.{jobs-count, placed-places, placed-again}
+use Rattle.theory.proofs.Planning.{balanced-permitted, rested-permitted}
+use Rattle.theory.proofs.Runs.{settle-placed}
 use Rattle.sheet.specs.declared.Sheet.{Sheet}
 use Rattle.sheet.specs.Represent.{padded, sheetOf, bookOf, Sound}
-use Rattle.theory.proofs.Entries.{getD-zeros}
 use Rattle.sheet.proofs.Padded.{length-padded}
-use Rattle.sheet.proofs.SoundViews.{minutes-at, view-batches, view-valid, view-permitted, view-placed, view-placed-book}
-use Rattle.planner.specs.declared.Planned.{Planned}
-use Rattle.planner.specs.Calls.{planOf}
+use Rattle.sheet.proofs.SoundViews.{minutes-at, view-batches, view-valid, view-permitted, view-small, view-placed, view-placed-book}
+use Rattle.planner.specs.declared.Balanced.{Balanced}
+use Rattle.planner.specs.declared.Settled.{Settled}
+use Rattle.planner.specs.Calls.{balanceOf, settleOf}
+use Rattle.planner.proofs.Changes.{at-padded}
+use Rattle.planner.proofs.Figures.{balance-fits, small-rest}
+use Rattle.listing.specs.declared.plan.Planned.{Planned}
+use Rattle.listing.specs.Planned.{planOf}
 use Rattle.listing.specs.Rows.{figures, listingText}
 use Rattle.listing.proofs.Lines.{listing-of, listing-length}
-use Rattle.planner.proofs.Figures.{SmallFigures, plan-fits}
 
 -- ---- arrays that are longer than what they hold
-
-at-padded : (w : ℕ) (l : List ℕ) (b : ℕ) → at (padded w l) b ≡ at l b
-at-padded w l zero = refl
-at-padded w l (suc b) = getD-zeros l (w - length l) b
 
 minutes-of : (k : Book) (b : ℕ) → minutesOf (instance k) b ≡ batch k b .minutes
 minutes-of k zero = refl
@@ -45,9 +45,58 @@ text-of k p =
 
 -- ---- a sound sheet, planned
 
+-- six columns for each number, but twelve for the moves
+pub record SmallFigures (p : Plan) : Type 0 where
+  pub makespan : p .makespan < 1000000
+  pub bound : p .lowerBound < 1000000
+  pub level : p .level < 1000000
+  pub lifts : p .lifts < 1000000
+  pub pushes : p .pushes < 1000000
+  pub moves : p .moves < 10 ^ 12
+  pub few : length (p .group) ≤ 24
+
 module _ (s : Sheet) (v : Sound s) where
+  middle-permitted : Permitted (instance (bookOf s)) (balanceBook (bookOf s) .assignment)
+  middle-permitted = balanced-permitted (instance (bookOf s)) (In.places (bookOf s)) (view-valid s v) (view-permitted s v)
+
   new-permitted : Permitted (instance (bookOf s)) (planBook (bookOf s) .assignment)
-  new-permitted = plan-permitted (instance (bookOf s)) (In.places (bookOf s)) (view-valid s v) (view-permitted s v)
+  unfolding plan
+  new-permitted = rested-permitted (view-valid s v) middle-permitted
+
+  pub plan-fits : SmallFigures (planBook (bookOf s))
+  unfolding plan
+  plan-fits =
+      let b = balance-fits s v in
+      let z = small-rest (instance (bookOf s)) (balanceBook (bookOf s) .assignment) (view-valid s v) middle-permitted (view-small s v) in
+      record {
+        makespan = z .makespan;
+        bound = b .bound;
+        level = b .level;
+        lifts = b .lifts;
+        pushes = b .pushes;
+        moves = z .moves;
+        few = b .few;
+      }
+
+  -- settle on the sheet that balance leaves
+  pub plan-made : (b : Balanced) (z : Settled) → b ≡ balanceOf (bookOf s) → z ≡ settleOf (bookOf (b .sheet))
+      → record {
+        makespan = z .makespan;
+        bound = b .bound;
+        level = b .level;
+        lifts = b .lifts;
+        pushes = b .pushes;
+        moves = z .moves;
+        size = b .size;
+        group = b .group;
+        sheet = z .sheet;
+      } ≡ planOf (bookOf s)
+  unfolding balanceOf settleOf planOf plan
+  plan-made b z e f =
+      let k = bookOf s in
+      let x = balanceBook k .assignment in
+      let again = placed-again k x (planBook k .assignment) (new-permitted .size ∙ jobs-count k) in
+      rw (f, e, view-placed-book s v x middle-permitted, settle-placed k x middle-permitted, again)
 
   -- the places that its new sheet holds
   new-places : In.places (bookOf (sheetOf (withPlaces (bookOf s) (planBook (bookOf s) .assignment)))) ≡ planBook (bookOf s) .assignment
@@ -71,7 +120,7 @@ module _ (s : Sheet) (v : Sound s) where
   whole-as : (r : Planned) → r ≡ planOf (bookOf s) → r .size ≤ length (r .group)
   unfolding planOf
   whole-as r e =
-      let f = plan-fits s v .few in
+      let f = plan-fits .few in
       rw e (omega (arith, f, length-padded 24 (planBook (bookOf s) .group) f))
 
   -- what the planner answers, with the arrays of the sheet and of the new sheet
@@ -109,7 +158,7 @@ module _ (s : Sheet) (v : Sound s) where
     whole = whole-as r e;
     sheet = ap (λ (q : Planned). q .sheet) e;
     sound = sound-as r e;
-    inColumns = plan-fits s v;
+    inColumns = plan-fits;
   }
 
   -- the listing's length, and its text

@@ -10,10 +10,9 @@ use Rattle.rules.specs.Refusal.{Refusal, number}
 use Rattle.rules.specs.Sheet.{Book, sound}
 use Rattle.rules.specs.Render.{line}
 use Rattle.rules.specs.Read.{Reading, accepted, refusedAt, read}
-use Rattle.rules.specs.Run.{planBook}
 use Rattle.rules.specs.Lent.{atFront, printed, intoBuffer}
 use Rattle.rules.specs.Lent as L
-use Rattle.rules.specs.Listing.{listing, listingDue, program, host}
+use Rattle.rules.specs.Listing.{planBook, listing, listingDue, program, host}
 use Rattle.theory.proofs.Refusal.{number-range}
 use Rattle.theory.proofs.Sound.{sound-is, read-sound}
 use Rattle.sheet.specs.Represent.{sheetOf}
@@ -22,7 +21,7 @@ use Rattle.text.specs.declared.Hosted.{Hosted}
 use Rattle.text.specs.Answer.{hostedOf}
 use Rattle.theory.proofs.Fields.{line-length}
 use Rattle.listing.proofs.Lines.{listing-length}
-use Rattle.planner.proofs.Figures.{SmallFigures, plan-fits}
+use Rattle.listing.proofs.Planned.{SmallFigures, plan-fits}
 use Rattle.sheet.proofs.Bytes.{read-bounded}
 use Rattle.sheet.proofs.Accepted.{refused-line}
 

@@ -1,4 +1,4 @@
--- An answer of review, a trial or planning that is the rules' is so in document 01's numbers.
+-- An answer of review or a trial that is the rules' is so in document 01's numbers.
 use Prim.Native.Nat.{ℕ, _-_}
 use mathlib.Core.Path.{_≡_, refl, ap, _∙_}
 use mathlib.Core.Bool.{Bool, true, false}
@@ -11,23 +11,22 @@ use Rattle.rules.specs.Instance.{instance, places}
 use Rattle.rules.specs.Load.{load, review, total}
 use Rattle.rules.specs.Trial.{atLevel, ended}
 use Rattle.rules.specs.Group as G
-use Rattle.rules.specs.Run.{answer, answerNumbers, tryAnswer, planBook}
+use Rattle.rules.specs.Run.{answer, answerNumbers, tryAnswer}
 use Rattle.rules.specs.Run as R
 use Rattle.theory.proofs.Sound.{jobs-count, sound-valid, sound-permitted}
 use Rattle.theory.proofs.Trial.{Outcome, passes, fails, outcome, trial-permitted}
 use Rattle.sheet.specs.Represent.{padded}
 use Rattle.theory.proofs.Entries.{length-listTo}
 use Rattle.planner.specs.declared.Tried.{Tried}
-use Rattle.planner.specs.declared.Planned.{Planned}
 use Rattle.planner.specs.declared.Reviewed.{Reviewed}
-use Rattle.planner.specs.Calls.{reviewed, tried, planned, reviewOf, trialOf, planOf, trialAnswer, triedAs, replyNumbers, ReviewAnswered, TrialAnswered, PlanAnswered}
+use Rattle.planner.specs.Calls.{reviewOf, trialOf, trialAnswer, triedAs, reviewNumbers, trialNumbers, ReviewAnswered, TrialAnswered}
 
 -- ---- review
 
 front : (w : ℕ) (l : List ℕ) (c : ℕ) → length l ≡ c → take c (padded w l) ≡ l
 front w l c e = take-at l (replicate (w - length l) 0) c e
 
-review-answer : (k : Book) → replyNumbers k (reviewed (reviewOf k)) ≡ answerNumbers (answer k R.reviewing)
+review-answer : (k : Book) → reviewNumbers k (reviewOf k) ≡ answerNumbers (answer k R.reviewing)
 unfolding reviewOf answer review
 review-answer k =
     let v = review (instance k) (places k) in
@@ -37,7 +36,7 @@ review-answer k =
 
 module _ (k : Book) (v : sound k ≡ true) where
   tried-numbers : (a : ℕ) {t : G.Tried} → Outcome (instance k) (places k) (sound-valid k v) (sound-permitted k v) a t
-      → replyNumbers k (tried (triedAs t)) ≡ answerNumbers (R.tried t)
+      → trialNumbers k (triedAs t) ≡ answerNumbers (R.tried t)
   tried-numbers a (passes p) =
       let w = trial-permitted (instance k) (places k) (sound-valid k v) (sound-permitted k v) (atLevel (instance k) a) in
       let e = ended (instance k) (places k) a in
@@ -46,22 +45,13 @@ module _ (k : Book) (v : sound k ≡ true) where
       let e = ended (instance k) (places k) a in
       ap (λ (l : List ℕ). 0 ∷ 0 ∷ e .lifts ∷ e .pushes ∷ l) (front 24 g (length g) refl)
 
-  trial-numbers : (a : ℕ) (b : Bool) → replyNumbers k (tried (trialAnswer (tryAnswer b k a))) ≡ answerNumbers (tryAnswer b k a)
-  trial-numbers a true = tried-numbers a (outcome (instance k) (places k) (sound-valid k v) (sound-permitted k v) a)
-  trial-numbers a false = refl
+  answer-numbers : (a : ℕ) (b : Bool) → trialNumbers k (trialAnswer (tryAnswer b k a)) ≡ answerNumbers (tryAnswer b k a)
+  answer-numbers a true = tried-numbers a (outcome (instance k) (places k) (sound-valid k v) (sound-permitted k v) a)
+  answer-numbers a false = refl
 
-  trial-answer : (a : ℕ) → replyNumbers k (tried (trialOf k a)) ≡ answerNumbers (answer k (R.trying a))
+  trial-answer : (a : ℕ) → trialNumbers k (trialOf k a) ≡ answerNumbers (answer k (R.trying a))
   unfolding trialOf answer
-  trial-answer a = trial-numbers a (leb a (total (instance k)))
-
--- ---- planning
-
-plan-answer : (k : Book) → replyNumbers k (planned (planOf k)) ≡ answerNumbers (answer k R.planning)
-unfolding planOf answer
-plan-answer k =
-    let p = planBook k in
-    ap (λ (l : List ℕ). 0 ∷ p .makespan ∷ p .lowerBound ∷ p .level ∷ p .lifts ∷ p .pushes ∷ p .moves ∷ length (p .group) ∷ l)
-    (front 24 (p .group) (length (p .group)) refl)
+  trial-answer a = answer-numbers a (leb a (total (instance k)))
 
 -- ---- what each promises
 
@@ -70,6 +60,3 @@ review-answered {k} f = record { is = f; numbers = rw f (review-answer k) }
 
 pub trial-answered : {k : Book} {a : ℕ} {r : Tried} → sound k ≡ true → r ≡ trialOf k a → TrialAnswered k a r
 trial-answered {k} {a} v f = record { is = f; numbers = rw f (trial-answer k v a) }
-
-pub plan-answered : {k : Book} {r : Planned} → r ≡ planOf k → PlanAnswered k r
-plan-answered {k} f = record { is = f; numbers = rw f (plan-answer k) }

@@ -1,4 +1,4 @@
--- What review, a trial and planning answer, by the rules: each case with document 01's numbers and values.
+-- What review, a trial, balance and settle answer, by the rules: each case with document 01's numbers and values.
 use Prim.Native.Nat.{ℕ}
 use mathlib.Core.Path.{_≡_}
 use mathlib.Core.Bool.{true, false}
@@ -10,15 +10,15 @@ use Rattle.rules.specs.Sheet.{Book, size}
 use Rattle.rules.specs.Load as L
 use Rattle.rules.specs.Group as G
 use Rattle.rules.specs.Plan as P
-use Rattle.rules.specs.Run.{Answer, answer, answerNumbers, planBook, withPlaces}
+use Rattle.rules.specs.Run.{Answer, answer, answerNumbers, balanceBook, settleBook, withPlaces}
 use Rattle.rules.specs.Run as R
 use Rattle.sheet.specs.declared.Refusal.{Refusal}
 use Rattle.sheet.specs.declared.Refusal.the-variants.{Nothing}
 use Rattle.sheet.specs.Represent.{padded, sheetOf}
-use Rattle.sheet.specs.declared.Edited.{Edited}
 use Rattle.sheet.specs.Answers.{numberOf, coded}
 use Rattle.planner.specs.declared.Tried.{Tried}
-use Rattle.planner.specs.declared.Planned.{Planned}
+use Rattle.planner.specs.declared.Balanced.{Balanced}
+use Rattle.planner.specs.declared.Settled.{Settled}
 use Rattle.planner.specs.declared.Reviewed.{Reviewed}
 
 -- nothing but a refusal
@@ -50,7 +50,8 @@ trialAnswer (R.refused e) = refusedTrial (coded e)
 trialAnswer R.done = refusedTrial Nothing
 trialAnswer (R.reviewed v) = refusedTrial Nothing
 trialAnswer (R.tried t) = triedAs t
-trialAnswer (R.planned p) = refusedTrial Nothing
+trialAnswer (R.balanced b l) = refusedTrial Nothing
+trialAnswer (R.settled z l) = refusedTrial Nothing
 
 -- the answer to a trial at level a on the book
 unfoldable pub trialOf : Book → ℕ → Tried
@@ -63,54 +64,49 @@ reviewedAs v = record { loads = padded 24 (v .loads); makespan = v .makespan; im
 unfoldable pub reviewOf : Book → Reviewed
 reviewOf k = reviewedAs (L.review (Rattle.rules.specs.Instance.instance k) (Rattle.rules.specs.Instance.places k))
 
--- a plan's numbers, and the sheet of the book with its places
-abbrev pub plannedAs : Book → P.Plan → Planned
-plannedAs k p = record {
-  makespan = p .makespan;
-  bound = p .lowerBound;
-  level = p .level;
-  lifts = p .lifts;
-  pushes = p .pushes;
-  moves = p .moves;
-  size = length (p .group);
-  group = padded 24 (p .group);
-  sheet = sheetOf (withPlaces k (p .assignment));
+-- balance's figures, and the sheet of the book with its places
+abbrev pub balancedAs : Book → P.Balanced → Balanced
+balancedAs k b = record {
+  makespan = b .makespan;
+  bound = b .lowerBound;
+  level = b .level;
+  lifts = b .lifts;
+  pushes = b .pushes;
+  size = length (b .group);
+  group = padded 24 (b .group);
+  sheet = sheetOf (withPlaces k (b .assignment));
 }
 
--- the answer to planning on the book
-unfoldable pub planOf : Book → Planned
-planOf k = plannedAs k (planBook k)
+-- balance on the book
+unfoldable pub balanceOf : Book → Balanced
+balanceOf k = balancedAs k (balanceBook k)
 
--- what a call's function returns
-pub data Reply : Type 0 where
-  edited : Edited → Reply
-  reviewed : Reviewed → Reply
-  tried : Tried → Reply
-  planned : Planned → Reply
+-- settle's
+abbrev pub settledAs : Book → P.Rested → Settled
+settledAs k z = record { makespan = z .makespan; moves = z .moves; sheet = sheetOf (withPlaces k (z .assignment)) }
 
--- ---- a reply as document 01's numbers: the refusal first, 0 for none, and then its values; k is the book before the call
+-- settle on the book
+unfoldable pub settleOf : Book → Settled
+settleOf k = settledAs k (settleBook k)
+
+-- ---- replies as document 01's numbers: the refusal first, 0 for none, and then the values; k is the book before the call
+
+abbrev pub reviewNumbers : Book → Reviewed → List ℕ
+reviewNumbers k r = 0 ∷ r .makespan ∷ r .improving ∷ take (k .m) (r .loads)
 
 -- 1 for a pass, 0 for a failure; lifts, pushes; the places, or the group
 abbrev pub triedFigures : Book → Tried → List ℕ
 triedFigures k t = pick (t .passed) (1 ∷ t .lifts ∷ t .pushes ∷ take (size k) (t .places)) (0 ∷ t .lifts ∷ t .pushes ∷ take (t .size) (t .group))
 
-abbrev pub replyNumbers : Book → Reply → List ℕ
-replyNumbers k (edited r) = numberOf (r .refusal) ∷ []
-replyNumbers k (reviewed r) = 0 ∷ r .makespan ∷ r .improving ∷ take (k .m) (r .loads)
-replyNumbers k (tried r) = pick (eqb (numberOf (r .refusal)) 0) (0 ∷ triedFigures k r) (numberOf (r .refusal) ∷ [])
-replyNumbers k (planned r) =
-    0 ∷ r .makespan ∷ r .bound ∷ r .level ∷ r .lifts ∷ r .pushes ∷ r .moves ∷ r .size ∷ take (r .size) (r .group)
+abbrev pub trialNumbers : Book → Tried → List ℕ
+trialNumbers k t = pick (eqb (numberOf (t .refusal)) 0) (0 ∷ triedFigures k t) (numberOf (t .refusal) ∷ [])
 
--- ---- what each call promises: its answer is the rules', and as those numbers too
+-- ---- what review and a trial promise: the answer is the rules', and as those numbers too
 
 pub record ReviewAnswered (k : Book) (r : Reviewed) : Type 0 where
   pub is : r ≡ reviewOf k
-  pub numbers : replyNumbers k (reviewed r) ≡ answerNumbers (answer k R.reviewing)
+  pub numbers : reviewNumbers k r ≡ answerNumbers (answer k R.reviewing)
 
 pub record TrialAnswered (k : Book) (a : ℕ) (r : Tried) : Type 0 where
   pub is : r ≡ trialOf k a
-  pub numbers : replyNumbers k (tried r) ≡ answerNumbers (answer k (R.trying a))
-
-pub record PlanAnswered (k : Book) (r : Planned) : Type 0 where
-  pub is : r ≡ planOf k
-  pub numbers : replyNumbers k (planned r) ≡ answerNumbers (answer k R.planning)
+  pub numbers : trialNumbers k r ≡ answerNumbers (answer k (R.trying a))

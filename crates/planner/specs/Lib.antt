@@ -2,4 +2,3 @@ pub mod Calls
 pub mod Laid
 pub mod Search
 pub mod Drawing
-pub mod Runs

@@ -1,14 +1,17 @@
-// The calls on a sheet: review and one trial at a level, which do not alter it, and planning.
+// The calls on a sheet: review and one trial at a level, which do not alter it, and the cores of balance and settle, which alter its
+// places.
 ghost use mathlib.Core.Path.{_≡_};
 ghost use Prim.Native.Nat.{_≤_};
 ghost use lib.ListN.{take};
 ghost use Rattle.sheet.specs.Represent.{Sound, bookOf, padded};
-ghost use Rattle.planner.specs.Calls.{ReviewAnswered, TrialAnswered, PlanAnswered};
-use crate::Planned;
+ghost use Rattle.planner.specs.Calls.{ReviewAnswered, TrialAnswered, balanceOf, settleOf};
+use crate::Balanced;
 use crate::Reviewed;
+use crate::Settled;
 use crate::Tried;
+use crate::drawn::draw;
+use crate::drawn::rest;
 use crate::laid::lay;
-use crate::plan::draw;
 use arrays::scan::largest_load;
 use scans::group::longest_of;
 use scans::group::members_of;
@@ -100,10 +103,10 @@ pub fn trial(sheet: Sheet, level: u32) -> Tried
     }
 }
 
-// The search over levels from the standing places, and settling after it: the figures, and the sheet with its new places.
-pub fn plan(sheet: Sheet) -> Planned
+// The search over levels from the standing places: the figures, and the sheet with the places that it leaves, before settling.
+pub fn balance(sheet: Sheet) -> Balanced
     requires { ⌜ Sound sheet ⌝ }
-    ensures { λ r. ⌜ PlanAnswered (bookOf sheet) r ⌝ }
+    ensures { λ r. ⌜ r ≡ balanceOf (bookOf sheet) ⌝ }
 {
     let a = lay(sheet);
     let minutes = a.minutes;
@@ -114,15 +117,34 @@ pub fn plan(sheet: Sheet) -> Planned
     let list = d.group;
     let end = d.places;
     let after = sheet.with_places(end);
-    Planned {
+    Balanced {
         makespan: d.makespan,
         bound: d.bound,
         level: d.level,
         lifts: d.lifts,
         pushes: d.pushes,
-        moves: d.moves,
         size: d.size,
         group: list,
+        sheet: after,
+    }
+}
+
+// Settling from the standing places: the figures, and the sheet with the places that it leaves.
+pub fn settle(sheet: Sheet) -> Settled
+    requires { ⌜ Sound sheet ⌝ }
+    ensures { λ r. ⌜ r ≡ settleOf (bookOf sheet) ⌝ }
+{
+    let a = lay(sheet);
+    let minutes = a.minutes;
+    let masks = a.masks;
+    let places = a.places;
+    let loads = a.loads;
+    let z = rest(places, loads, &minutes, &masks, a.m, a.n);
+    let rested = z.places;
+    let after = sheet.with_places(rested);
+    Settled {
+        makespan: z.makespan,
+        moves: z.moves,
         sheet: after,
     }
 }

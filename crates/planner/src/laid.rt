@@ -1,4 +1,4 @@
-// A sheet in arrays, as review, trials and planning need it.
+// A sheet in arrays, as review, trials, balance and settle need it.
 ghost use Rattle.sheet.specs.Represent.{Sound, bookOf};
 ghost use Rattle.planner.specs.Laid.{Lays};
 use arrays::JOBS;

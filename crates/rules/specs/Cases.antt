@@ -1,5 +1,5 @@
 -- Document 01, "Cases": P1 to P10 in one table, with one theorem over it. The rows from 11 on are more of document 01's cases
--- and ours: each tells a wrong rule from the right one. Rows 20 to 22 are C-11 to C-13 of
+-- and ours: each tells a wrong rule from the right one. Rows 20 to 23 are C-11 to C-14 of
 -- document 02.
 use Prim.Native.Nat.{ℕ}
 use Prim.Native.String.{String}
@@ -8,7 +8,7 @@ use mathlib.Core.Bool.{Bool, true, false}
 use mathlib.Core.List.{List, [], _∷_, map, _++_}
 use lib.ListN.{replicate}
 use Rattle.rules.specs.Fold.{_and_, _or_, mem, every, sumTo, most, maxTo, orElse, firstTo, anyTo, allTo, lesser, leastTo, greater, greatestTo, thoseTo, listTo}
-use Rattle.rules.specs.Refusal.{malformed, badSize, badLength, badList, badPlace, noBatch, levelAbove}
+use Rattle.rules.specs.Refusal.{malformed, badSize, badLength, badList, badPlace, noBatch, levelAbove, bufferShort}
 use Rattle.rules.specs.Sheet.{Batch, isBatch, goodInstruments, goodMinutes, isInstrument, distinct, goodList, goodBatch, sound}
 use Rattle.rules.specs.Field.{Field, value, blank, fault, digits, loneZero, blanks, field}
 use Rattle.rules.specs.Read.{Reading, accepted, refusedAt, numberAt, placeAt, endOfLine, headLine, instrumentsAt, batchLine, batchLines, read}
@@ -23,11 +23,13 @@ use Rattle.rules.specs.Group.{overflows, reach, reachBy, closure, group,
 use Rattle.rules.specs.Balance.{searchBy, balance}
 use Rattle.rules.specs.LowerBound.{within, confined, share, lowerBound}
 use Rattle.rules.specs.Round.{multiples, equalLengths, closeTo}
-use Rattle.rules.specs.Plan.{plan}
-use Rattle.rules.specs.Run.{Call, editing, reviewing, trying, planning, Answer, refused, done, reviewed, tried, planned, planBook, answer, next, bookAfter, answers}
+use Rattle.rules.specs.Plan as P
+use Rattle.rules.specs.Moves.{Move, records, moveNumbers}
+use Rattle.rules.specs.Run.{Call, editing, reviewing, trying, balancing, settling, Answer, refused, done, reviewed, tried, balanced, settled, balanceBook, answer, next, bookAfter, answers}
 use Rattle.rules.specs.Lent.{Hosted, intoBuffer}
 use Rattle.rules.specs.Listing.{batchListing, listing, program, host}
-use Rattle.rules.specs.Journal.{numbersAt, listAt, addAt, withdrawAt, requalifyAt, moveAt, trialAt, callAt, callLine, linesBy, journal, answerLines, runHost, writeHost}
+use Rattle.rules.specs.Journal.{numbersAt, listAt, addAt, withdrawAt, requalifyAt, moveAt, trialAt, balanceAt, settleAt, callAt, callLine, linesBy, journal, answerLines, runHost, writeHost}
+use Rattle.rules.specs.Filed.{Filed, filed}
 use Rattle.rules.specs.Text.{bytes, lines}
 
 -- ---- the sheets
@@ -150,6 +152,17 @@ equals =
     ∷ "     6     1     2     1     2"
     ∷ [])
 
+-- settling moves batch 2 away and back, and batch 4 in between
+abbrev returning : List ℕ
+returning =
+    lines
+    ("     3     4"
+    ∷ "     1     3     1     3"
+    ∷ "     4     3     2     2     3"
+    ∷ "     2     2     1     2"
+    ∷ "     2     3     2     1     3"
+    ∷ [])
+
 -- ---- what is asked, and what is said
 
 data Ask : Type 0 where
@@ -171,12 +184,14 @@ data Ask : Type 0 where
   running : List ℕ → List ℕ → List ℕ → Ask
   -- the same, for the sheet as the journal leaves it
   leaving : List ℕ → List ℕ → List ℕ → Ask
+  -- a file, balance or settle, and a buffer, through the host's call
+  filing : List ℕ → Call → List ℕ → Ask
   -- calls in a row, on the sheet of a file
   calling : List ℕ → List Call → Ask
-  -- a file planned, beside another plan of it, for a number g
+  -- a file balanced, beside another plan of it, for a number g
   comparing : List ℕ → ℕ → Assignment → Ask
 
--- the lengths are multiples of g, and all equal; the other plan is permitted; the plan's finish and the other's; the bound for g holds
+-- the lengths are multiples of g, and all equal; the other plan is permitted; balance's finish and the other's; the bound for g holds
 record Comparison : Type 0 where
   multiples : Bool
   equal : Bool
@@ -192,6 +207,7 @@ data Said : Type 0 where
   matched : Bool → Said
   printed : List ℕ → Said
   hosted : Hosted → Said
+  filedSaid : Filed → Said
   answered : List Answer → Said
   compared : Comparison → Said
   noSheet : Said
@@ -207,9 +223,9 @@ comparedOn (accepted k) g y =
       multiples = multiples I g;
       equal = equalLengths I;
       permitted = permitted I y;
-      finish = planBook k .makespan;
+      finish = balanceBook k .makespan;
       other = makespan I y;
-      close = closeTo I g (planBook k .makespan) (makespan I y);
+      close = closeTo I g (balanceBook k .makespan) (makespan I y);
     })
 comparedOn (refusedAt e j) g y = noSheet
 
@@ -227,6 +243,7 @@ say (printing s) = printed (program s)
 say (hosting s b) = hosted (host s b)
 say (running s c b) = hosted (runHost s c b)
 say (leaving s c b) = hosted (writeHost s c b)
+say (filing s c b) = filedSaid (filed s c b)
 say (calling s cs) = callsOn (read s) cs
 say (comparing s g y) = comparedOn (read s) g y
 
@@ -239,9 +256,15 @@ record Row : Type 0 where
 abbrev row : ℕ → Ask → Said → Row
 row k a s = record { name = k; ask = a; says = s }
 
-abbrev planSaid : ℕ → ℕ → ℕ → ℕ → ℕ → ℕ → List ℕ → List ℕ → Answer
-planSaid f lb a r b v g x =
-    planned (record { makespan = f; lowerBound = lb; level = a; lifts = r; pushes = b; moves = v; group = g; assignment = x })
+abbrev balanceSaid : ℕ → ℕ → ℕ → ℕ → ℕ → List ℕ → List ℕ → List Move → Answer
+balanceSaid f lb a r b g x l =
+    balanced (record { makespan = f; lowerBound = lb; level = a; lifts = r; pushes = b; group = g; assignment = x }) l
+
+abbrev settleSaid : ℕ → ℕ → List ℕ → List Move → Answer
+settleSaid f v x l = settled (record { makespan = f; moves = v; assignment = x }) l
+
+abbrev went : ℕ → ℕ → ℕ → Move
+went b i j = record { batch = b; from = i; to = j }
 
 abbrev reviewSaid : List ℕ → ℕ → ℕ → Answer
 reviewSaid l f b = reviewed (record { loads = l; makespan = f; improving = b })
@@ -278,9 +301,12 @@ table =
     ∷ "     2     1    20"
     ∷ "     3     1    10"
     ∷ [])))
-    ∷ row 2 (calling p2 (planning ∷ [])) (answered (planSaid 30 30 20 0 0 0 (1 ∷ []) (1 ∷ 1 ∷ 1 ∷ []) ∷ []))
-    ∷ row 3 (calling p3 (planning ∷ [])) (answered (planSaid 0 0 0 0 0 0 [] [] ∷ []))
-    ∷ row 4 (calling p4 (planning ∷ [])) (answered (planSaid 1440 1440 0 0 0 0 [] (1 ∷ []) ∷ []))
+    ∷ row 2 (calling p2 (balancing 3 ∷ settling 3 ∷ []))
+    (answered (balanceSaid 30 30 20 0 0 (1 ∷ []) (1 ∷ 1 ∷ 1 ∷ []) [] ∷ settleSaid 30 0 (1 ∷ 1 ∷ 1 ∷ []) [] ∷ []))
+    ∷ row 3 (calling p3 (balancing 0 ∷ settling 0 ∷ []))
+    (answered (balanceSaid 0 0 0 0 0 [] [] [] ∷ settleSaid 0 0 [] [] ∷ []))
+    ∷ row 4 (calling p4 (balancing 1 ∷ settling 1 ∷ []))
+    (answered (balanceSaid 1440 1440 0 0 0 [] (1 ∷ []) [] ∷ settleSaid 1440 0 (1 ∷ []) [] ∷ []))
     ∷ row 5 (calling p5 (reviewing ∷ [])) (answered (reviewSaid (30 ∷ 20 ∷ []) 30 0 ∷ []))
     ∷ row 6 (calling p6 (reviewing ∷ [])) (answered (reviewSaid (31 ∷ 20 ∷ []) 31 2 ∷ []))
     ∷ row 7 (calling p1 (trying 0 ∷ [])) (answered (tried (passed (2 ∷ 1 ∷ 1 ∷ []) 2 2) ∷ []))
@@ -301,7 +327,7 @@ table =
     ∷ row 11 (reading (lines ("     2     1" ∷ "    10     0     2     2     1" ∷ [])))
     (readingSaid (accepted (record { m = 2; batches = batchOf 10 (2 ∷ 1 ∷ []) 2 ∷ [] })))
     ∷ row 12 (writing p1) (fileSaid p1)
-    -- more of trials and planning
+    -- more of trials, balance and settle
     ∷ row 13 (calling alone (trying 0 ∷ trying 20 ∷ trying 30 ∷ trying 31 ∷ []))
     (answered
     (tried (failed (1 ∷ []) 0 0)
@@ -309,20 +335,32 @@ table =
     ∷ tried (passed (1 ∷ 1 ∷ 1 ∷ []) 0 0)
     ∷ refused levelAbove
     ∷ []))
-    ∷ row 14 (calling apart (planning ∷ [])) (answered (planSaid 30 30 0 0 0 0 [] (1 ∷ 2 ∷ []) ∷ []))
-    ∷ row 15 (calling again (planning ∷ [])) (answered (planSaid 6 5 2 2 2 0 (1 ∷ 2 ∷ []) (2 ∷ 1 ∷ 1 ∷ []) ∷ []))
+    ∷ row 14 (calling apart (balancing 2 ∷ [])) (answered (balanceSaid 30 30 0 0 0 [] (1 ∷ 2 ∷ []) [] ∷ []))
+    ∷ row 15 (calling again (balancing 3 ∷ []))
+    (answered (balanceSaid 6 5 2 2 2 (1 ∷ 2 ∷ []) (2 ∷ 1 ∷ 1 ∷ []) (went 1 1 2 ∷ []) ∷ []))
     ∷ row 16 (calling uneven (trying 0 ∷ trying 1 ∷ trying 2 ∷ []))
     (answered
     (tried (passed (3 ∷ 2 ∷ 2 ∷ 1 ∷ []) 4 4)
     ∷ tried (failed (1 ∷ 2 ∷ 3 ∷ []) 5 6)
     ∷ tried (passed (2 ∷ 2 ∷ 1 ∷ 1 ∷ []) 0 0)
     ∷ []))
-    ∷ row 17 (calling unsettled (reviewing ∷ planning ∷ reviewing ∷ []))
+    ∷ row 17 (calling unsettled (reviewing ∷ balancing 4 ∷ settling 4 ∷ reviewing ∷ []))
     (answered
     (reviewSaid (9 ∷ 4 ∷ []) 9 2
-    ∷ planSaid 7 7 4 0 0 2 (1 ∷ 2 ∷ []) (2 ∷ 2 ∷ 1 ∷ 1 ∷ [])
+    ∷ balanceSaid 9 7 4 0 0 (1 ∷ 2 ∷ []) (2 ∷ 1 ∷ 1 ∷ 2 ∷ []) []
+    ∷ settleSaid 7 2 (2 ∷ 2 ∷ 1 ∷ 1 ∷ []) (went 2 1 2 ∷ went 4 2 1 ∷ [])
     ∷ reviewSaid (7 ∷ 6 ∷ []) 7 0
     ∷ []))
+    ∷ row 17 (printing unsettled)
+    (printed
+    (lines
+    ("     7     7     4     0     0           2"
+    ∷ "     2     1     2"
+    ∷ "     1     2     2"
+    ∷ "     2     2     4"
+    ∷ "     3     1     5"
+    ∷ "     4     1     2"
+    ∷ [])))
     -- edits in a row, each refusal once
     ∷ row 18 (calling p1
     (editing (withdraw 0)
@@ -391,7 +429,8 @@ table =
     (compared (record { multiples = false; equal = false; permitted = true; finish = 6; other = 4; close = true }))
     ∷ row 21 (comparing equals 6 (1 ∷ 1 ∷ 2 ∷ []))
     (compared (record { multiples = true; equal = true; permitted = true; finish = 12; other = 12; close = true }))
-    ∷ row 21 (calling equals (planning ∷ [])) (answered (planSaid 12 9 6 2 2 0 (1 ∷ 2 ∷ []) (2 ∷ 1 ∷ 1 ∷ []) ∷ []))
+    ∷ row 21 (calling equals (balancing 3 ∷ []))
+    (answered (balanceSaid 12 9 6 2 2 (1 ∷ 2 ∷ []) (2 ∷ 1 ∷ 1 ∷ []) (went 1 1 2 ∷ []) ∷ []))
     -- a sheet written back: every place as it is, lists in their order; another file only where a place was left open
     ∷ row 22 (writing threeWays) (fileSaid (likeThreeWays "    10     1     2     2     1" "    20     2     2     2     1"))
     ∷ row 22 (matching threeGiven (likeThreeWays "    10     1     2     2     1" "    20     2     2     2     1")) (matched true)
@@ -399,7 +438,7 @@ table =
     ∷ row 22 (matching threeGiven (likeThreeWays "    10     1     2     2     1" "    20     2     2     1     2")) (matched false)
     ∷ row 22 (matching threeGiven (likeThreeWays "    10     1     2     2     1" "    20     2     2     2     1 ")) (matched false)
     -- the sheet that a journal leaves, a refused call among its calls; an empty journal; a short buffer; bad files
-    ∷ row 22 (leaving p1 (lines ("     7" ∷ "     4     2     2" ∷ "     2     2" ∷ "     1    15     2     2     1" ∷ [])) (replicate 107 1))
+    ∷ row 22 (leaving p1 (lines ("     7     3" ∷ "     8     3" ∷ "     4     2     2" ∷ "     2     2" ∷ "     1    15     2     2     1" ∷ [])) (replicate 107 1))
     (hosted (record {
       refusal = 0;
       line = 0;
@@ -415,8 +454,60 @@ table =
     }))
     ∷ row 22 (leaving p3 [] (replicate 13 1)) (hosted (record { refusal = 0; line = 0; length = 13; buffer = p3 }))
     ∷ row 22 (leaving p3 [] (replicate 12 1)) (hosted (record { refusal = 9; line = 0; length = 0; buffer = replicate 12 1 }))
-    ∷ row 22 (leaving p3 (lines ("     5" ∷ "     8" ∷ [])) []) (hosted (record { refusal = 19; line = 2; length = 0; buffer = [] }))
-    ∷ row 22 (leaving [] (lines ("     8" ∷ [])) []) (hosted (record { refusal = 1; line = 1; length = 0; buffer = [] }))
+    ∷ row 22 (leaving p3 (lines ("     5" ∷ "     9" ∷ [])) []) (hosted (record { refusal = 19; line = 2; length = 0; buffer = [] }))
+    ∷ row 22 (leaving [] (lines ("     9" ∷ [])) []) (hosted (record { refusal = 1; line = 1; length = 0; buffer = [] }))
+    -- settle alone; a list with an entry less than there are batches, which changes nothing; balance after it, and each of them twice
+    ∷ row 23 (calling p1 (balancing 2 ∷ settling 2 ∷ settling 3 ∷ balancing 4 ∷ settling 4 ∷ balancing 3 ∷ []))
+    (answered
+    (refused bufferShort
+    ∷ refused bufferShort
+    ∷ settleSaid 30 1 (2 ∷ 1 ∷ 1 ∷ []) (went 1 1 2 ∷ [])
+    ∷ balanceSaid 30 30 0 0 0 [] (2 ∷ 1 ∷ 1 ∷ []) []
+    ∷ settleSaid 30 0 (2 ∷ 1 ∷ 1 ∷ []) []
+    ∷ balanceSaid 30 30 0 0 0 [] (2 ∷ 1 ∷ 1 ∷ []) []
+    ∷ []))
+    -- a batch that settles away and returns has two moves and no record
+    ∷ row 23 (calling returning (settling 4 ∷ [])) (answered (settleSaid 5 3 (3 ∷ 3 ∷ 2 ∷ 1 ∷ []) (went 4 3 1 ∷ []) ∷ []))
+    -- as lines of a journal; a line without the number of entries
+    ∷ row 23 (running p1 (lines ("     7     2" ∷ "     7     3" ∷ "     8     3" ∷ [])) (replicate 106 1))
+    (hosted (record {
+      refusal = 0;
+      line = 0;
+      length = 105;
+      buffer =
+          lines
+          ("     9"
+          ∷ "     0    30    30     0     2     2     0     1     1     1     2"
+          ∷ "     0    30           0     0"
+          ∷ [])
+          ++ (1 ∷ []);
+    }))
+    ∷ row 23 (running p1 (lines ("     5" ∷ "     7" ∷ [])) (1 ∷ []))
+    (hosted (record { refusal = 19; line = 2; length = 0; buffer = 1 ∷ [] }))
+    -- on a file, with the sheet written back; a short list, a short buffer, a bad sheet
+    ∷ row 23 (filing p1 (settling 3) (replicate 101 1))
+    (filedSaid (record {
+      hosted = record {
+        refusal = 0;
+        line = 0;
+        length = 100;
+        buffer =
+            lines
+            ("     2     3"
+            ∷ "    30     2     2     1     2"
+            ∷ "    20     1     1     1"
+            ∷ "    10     1     2     1     2"
+            ∷ [])
+            ++ (1 ∷ []);
+      };
+      answer = settleSaid 30 1 (2 ∷ 1 ∷ 1 ∷ []) (went 1 1 2 ∷ []);
+    }))
+    ∷ row 23 (filing p1 (balancing 2) [])
+    (filedSaid (record { hosted = record { refusal = 9; line = 0; length = 0; buffer = [] }; answer = refused bufferShort }))
+    ∷ row 23 (filing p1 (balancing 3) (replicate 99 1))
+    (filedSaid (record { hosted = record { refusal = 9; line = 0; length = 0; buffer = replicate 99 1 }; answer = refused bufferShort }))
+    ∷ row 23 (filing [] (balancing 0) [])
+    (filedSaid (record { hosted = record { refusal = 1; line = 1; length = 0; buffer = [] }; answer = refused malformed }))
     ∷ []
 
 abbrev asked : List Row → List Said
@@ -427,5 +518,5 @@ said t = map (λ (r : Row). r .says) t
 
 -- the rules say what the table says
 cases : asked table ≡ said table
-unfolding table bytes lines _and_ _or_ mem every sumTo most maxTo orElse firstTo anyTo allTo lesser leastTo greater greatestTo thoseTo listTo isBatch goodInstruments goodMinutes isInstrument distinct goodList goodBatch sound digits loneZero blanks field numberAt placeAt endOfLine headLine instrumentsAt batchLine batchLines read columns fields renderBatches render written openInBatches openColumns alike batchWithinLimits withinLimits kept edit load makespan longest total permitted elsewhere improvesAt improves review mover target moved squares settleBy settle atLevel underloaded overloaded unplaced machineArc jobArc liftOver pushOr deed jobDeed machineDeed someUnderloaded actMachine actJob act stepsBy liftBound pushBound endedBy overflows reach reachBy closure group trial searchBy balance within confined share lowerBound multiples equalLengths closeTo plan answer next bookAfter answers intoBuffer batchListing listing program host numbersAt listAt addAt withdrawAt requalifyAt moveAt trialAt callAt callLine linesBy journal answerLines runHost writeHost
+unfolding table bytes lines _and_ _or_ mem every sumTo most maxTo orElse firstTo anyTo allTo lesser leastTo greater greatestTo thoseTo listTo isBatch goodInstruments goodMinutes isInstrument distinct goodList goodBatch sound digits loneZero blanks field numberAt placeAt endOfLine headLine instrumentsAt batchLine batchLines read columns fields renderBatches render written openInBatches openColumns alike batchWithinLimits withinLimits kept edit load makespan longest total permitted elsewhere improvesAt improves review mover target moved squares settleBy settle atLevel underloaded overloaded unplaced machineArc jobArc liftOver pushOr deed jobDeed machineDeed someUnderloaded actMachine actJob act stepsBy liftBound pushBound endedBy overflows reach reachBy closure group trial searchBy balance within confined share lowerBound multiples equalLengths closeTo P.balanced P.rested P.plan records moveNumbers answer next bookAfter answers intoBuffer batchListing listing program host numbersAt listAt addAt withdrawAt requalifyAt moveAt trialAt balanceAt settleAt callAt callLine linesBy journal answerLines runHost writeHost filed
 cases = refl

@@ -1,5 +1,5 @@
 -- What the mathematics sees of a book: an instance (source document 000, section 2, with users as jobs and links as
--- machines) and an assignment. All rules on loads, trials and planning go by these two alone.
+-- machines) and an assignment. All rules on loads, trials, balance and settle go by these two alone.
 use Prim.Native.Nat.{ℕ, zero, suc}
 use mathlib.Core.Bool.{Bool}
 use mathlib.Core.List.{List, [], map}

@@ -11,8 +11,7 @@ use Rattle.rules.specs.Read.{Part, gives, refuses, andThen, numberAt, en
 use Rattle.rules.specs.Render.{columns, fields, line}
 use Rattle.rules.specs.Rewrite.{written}
 use Rattle.rules.specs.Edit.{add, withdraw, requalify, move}
-use Rattle.rules.specs.Plan.{Plan}
-use Rattle.rules.specs.Run.{Call, editing, reviewing, trying, planning, Answer, refused, done, reviewed, tried, planned, bookAfter, answers, answerNumbers}
+use Rattle.rules.specs.Run.{Call, editing, reviewing, trying, balancing, settling, Answer, refused, done, reviewed, tried, balanced, settled, bookAfter, answers, answerNumbers, recordNumbers}
 use Rattle.rules.specs.Lent.{Due, text, refusal, Hosted, intoBuffer}
 
 -- the refusal of a journal that is not of the form below
@@ -46,7 +45,14 @@ moveAt r = andThen (numberAt r) (λ b r₁. andThen (numberAt r₁) (λ i r₂. 
 unfoldable pub trialAt : List ℕ → Part Call
 trialAt r = andThen (numberAt r) (λ a r₁. gives (trying a) r₁)
 
--- by the kind: 1 add, 2 withdraw, 3 requalify, 4 move, 5 review, 6 trial, 7 plan
+-- the entries of the list lent for records
+unfoldable pub balanceAt : List ℕ → Part Call
+balanceAt r = andThen (numberAt r) (λ c r₁. gives (balancing c) r₁)
+
+unfoldable pub settleAt : List ℕ → Part Call
+settleAt r = andThen (numberAt r) (λ c r₁. gives (settling c) r₁)
+
+-- by the kind: 1 add, 2 withdraw, 3 requalify, 4 move, 5 review, 6 trial, 7 balance, 8 settle
 unfoldable pub callAt : ℕ → List ℕ → Part Call
 callAt kind r =
     pick (eqb kind 1) (addAt r)
@@ -55,8 +61,9 @@ callAt kind r =
     (pick (eqb kind 4) (moveAt r)
     (pick (eqb kind 5) (gives reviewing r)
     (pick (eqb kind 6) (trialAt r)
-    (pick (eqb kind 7) (gives planning r)
-    (refuses malformed)))))))
+    (pick (eqb kind 7) (balanceAt r)
+    (pick (eqb kind 8) (settleAt r)
+    (refuses malformed))))))))
 
 unfoldable pub callLine : List ℕ → Part Call
 callLine r = andThen (numberAt r) (λ kind r₁. andThen (callAt kind r₁) (λ c r₂. endOfLine r₂ (λ r₃. gives c r₃)))
@@ -83,20 +90,15 @@ linesBy (suc f) j r = pick (eqb (length r) 0) (calls []) (onCall j (callLine r) 
 unfoldable pub journal : List ℕ → Journal
 journal s = linesBy (length s) 1 s
 
--- ---- answers: a line each, the refusal first, 0 for none
-
--- a plan's figures, with twelve columns for the moves as in the listing, and its group
-abbrev pub planFigures : Plan → List ℕ
-planFigures p =
-    fields (0 ∷ p .makespan ∷ p .lowerBound ∷ p .level ∷ p .lifts ∷ p .pushes ∷ []) ++ columns 12 (p .moves)
-    ++ line (length (p .group) ∷ p .group)
+-- ---- answers: a line each, the refusal first, 0 for none; six columns for each number, but twelve for the moves of settling
 
 abbrev pub answerLine : Answer → List ℕ
 answerLine (refused e) = line (answerNumbers (refused e))
 answerLine done = line (answerNumbers done)
 answerLine (reviewed v) = line (answerNumbers (reviewed v))
 answerLine (tried t) = line (answerNumbers (tried t))
-answerLine (planned p) = planFigures p
+answerLine (balanced b l) = line (answerNumbers (balanced b l))
+answerLine (settled z l) = fields (0 ∷ z .makespan ∷ []) ++ columns 12 (z .moves) ++ line (recordNumbers l)
 
 unfoldable pub answerLines : List Answer → List ℕ
 answerLines [] = []

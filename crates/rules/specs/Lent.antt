@@ -1,4 +1,5 @@
--- A text and the buffer that a host lends for it (document 01, "The listing"; document 02, C-13): one rule for every text.
+-- A text and the buffer that a host lends for it (document 01, "The listing"; document 02, C-13): one rule for every text. Records of
+-- moves go into a lent list in the same way (document 02, C-14).
 use Prim.Native.Nat.{ℕ}
 use mathlib.Core.List.{List, [], _∷_, _++_}
 use lib.ListN.{length, drop}
@@ -19,8 +20,8 @@ pub record Hosted : Type 0 where
   pub length : ℕ
   pub buffer : List ℕ
 
--- a text at the front of a buffer: what lies past it stays
-abbrev pub atFront : List ℕ → List ℕ → List ℕ
+-- a text, or records, at the front of what was lent: what lies past them stays
+abbrev pub atFront : {X : Type 0} → List X → List X → List X
 atFront t buffer = t ++ drop (length t) buffer
 
 -- a refusal, or a buffer shorter than the text, writes nothing

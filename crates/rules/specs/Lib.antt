@@ -3,11 +3,12 @@
 --   Refusals           Refusal (the numbers; each rule names its own where it is judged)
 --   Loads and settling Instance, Load, Settle
 --   One trial          Trial, Group
---   Planning           Balance, LowerBound, Plan
+--   Planning           Balance, LowerBound, Plan (as document 02, C-14 divides it)
 --   Runs               Run
 --   The listing        Lent, Listing
 --   Cases              Cases, and Text, in which its files are written
--- Journal, calls and answers as texts, is not in document 01. Round and Rewrite are document 02's C-12 and C-13.
+-- Journal, calls and answers as texts, is not in document 01. Round, Rewrite and Moves are document 02's C-12, C-13 and C-14; Filed has
+-- C-14's two calls for hosts that keep their sheet as a file.
 -- Fold has the lists by number and the folds over 1 to k that all of them use.
 pub mod Fold
 pub mod Refusal
@@ -26,9 +27,11 @@ pub mod Balance
 pub mod LowerBound
 pub mod Round
 pub mod Plan
+pub mod Moves
 pub mod Run
 pub mod Lent
 pub mod Listing
 pub mod Journal
+pub mod Filed
 pub mod Text
 pub mod Cases

@@ -8,8 +8,12 @@ use Rattle.rules.specs.Sheet.{Book, size, batch}
 use Rattle.rules.specs.Render.{columns, fields, line}
 use Rattle.rules.specs.Read.{Reading, accepted, refusedAt, read}
 use Rattle.rules.specs.Lent.{Due, text, refusal, printed, Hosted, intoBuffer}
-use Rattle.rules.specs.Plan.{Plan}
-use Rattle.rules.specs.Run.{planBook}
+use Rattle.rules.specs.Instance.{instance, places}
+use Rattle.rules.specs.Plan.{Plan, plan}
+
+-- balance on a book, and settle straight after it
+abbrev pub planBook : Book → Plan
+planBook k = plan (instance k) (places k)
 
 -- line 1: six columns for each number, but twelve for the moves
 abbrev pub firstLine : Plan → List ℕ

@@ -13,6 +13,7 @@ pub data Refusal : Type 0 where
   sheetFull : Refusal
   -- the host program
   levelAbove : Refusal
+  -- a buffer, or (document 02, C-14) a list for records
   bufferShort : Refusal
 
 abbrev pub number : Refusal → ℕ

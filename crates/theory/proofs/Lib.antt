@@ -7,6 +7,7 @@ pub mod View
 pub mod Agree
 pub mod Member
 pub mod Those
+pub mod Records
 pub mod Valid
 pub mod Load
 pub mod Step

@@ -1,11 +1,11 @@
--- Planning, from a permitted assignment: the new one is permitted, settled and no later, and on an instance with a job it is within
--- longest − g of every permitted assignment, for each g of which every length is a multiple, and within longest − 1 of the lower bound,
--- which has its witness.
+-- Balance and settle, from a permitted assignment. What balance leaves is permitted and no later, and on an instance with a job it is
+-- within longest − g of every permitted assignment, for each g of which every length is a multiple, and within longest − 1 of the lower
+-- bound, which has its witness. What settle leaves is permitted, settled and no later.
 use Prim.Native.Nat.{ℕ, suc, _+_, _*_, _≤_, _<_, _∣_}
 use mathlib.Core.Path.{_≡_, refl, ap, _∙_}
 use mathlib.Core.Bool.{Bool, true, false}
 use mathlib.Core.List.{List, [], _∷_}
-use native.Mathlib.Nat.{le-refl, le-trans, dvd-add}
+use native.Mathlib.Nat.{le-refl, dvd-add}
 use native.Mathlib.Omega.{arith}
 use lib.ListN.{length}
 use lib.Dec.{ltb, eqb}
@@ -18,7 +18,7 @@ use Rattle.rules.specs.Settle.{squares}
 use Rattle.rules.specs.Balance.{balance}
 use Rattle.rules.specs.LowerBound.{share, confined, lowerBound, isShare, witnessed}
 use Rattle.rules.specs.Round.{multiples, closeTo}
-use Rattle.rules.specs.Plan.{plan}
+use Rattle.rules.specs.Plan.{balanced, rested}
 use Rattle.theory.proofs.Logic.{or-left, or-right}
 use Rattle.theory.proofs.View.{any-at, most-left, most-right}
 use Rattle.theory.proofs.Valid.{Valid, Permitted}
@@ -65,63 +65,74 @@ bound-witness I (i ∷ g) some =
     (or-left _ _ (longest-any I some))
     (or-right (anyTo (n I) (λ b. eqb (minutesOf I b) (share I (i ∷ g)))) _ (eq-eqb (share I (i ∷ g)) (share I (i ∷ g)) refl))
 
--- ---- planning
+-- ---- settle
+
+module _ {I : Instance} {x : Assignment} (v : Valid I) (w : Permitted I x) where
+  pub rested-permitted : Permitted I (rested I x .assignment)
+  unfolding rested
+  rested-permitted = settle-permitted v w
+
+  pub rested-settled : equilibrium I (rested I x .assignment) ≡ true
+  unfolding rested
+  rested-settled = settle-equilibrium v w
+
+  pub rested-makespan : rested I x .makespan ≡ makespan I (rested I x .assignment)
+  unfolding rested
+  rested-makespan = refl
+
+  pub rested-no-later : rested I x .makespan ≤ makespan I x
+  unfolding rested
+  rested-no-later = settle-no-later v w
+
+  -- the moves are at most half the sum of squared loads
+  pub rested-moves : 2 * rested I x .moves ≤ squares I x
+  unfolding rested
+  rested-moves = settle-moves v w
+
+-- ---- balance
 
 module _ (I : Instance) (x : Assignment) (v : Valid I) (w : Permitted I x) where
   found : SearchFound I x v w (balance I x)
   found = balance-found I x v w
 
-  pub plan-permitted : Permitted I (plan I x .assignment)
-  unfolding plan
-  plan-permitted = settle-permitted v (found .kept .permitted)
+  pub balanced-permitted : Permitted I (balanced I x .assignment)
+  unfolding balanced
+  balanced-permitted = found .kept .permitted
 
-  pub plan-settled : equilibrium I (plan I x .assignment) ≡ true
-  unfolding plan
-  plan-settled = settle-equilibrium v (found .kept .permitted)
+  pub balanced-makespan : balanced I x .makespan ≡ makespan I (balanced I x .assignment)
+  unfolding balanced
+  balanced-makespan = refl
 
-  pub plan-makespan : plan I x .makespan ≡ makespan I (plan I x .assignment)
-  unfolding plan
-  plan-makespan = refl
-
-  -- no later than the balanced assignment, which is no later than the standing one
-  pub plan-balanced : plan I x .makespan ≤ makespan I (balance I x .assignment)
-  unfolding plan
-  plan-balanced = settle-no-later v (found .kept .permitted)
-
-  pub plan-no-later : plan I x .makespan ≤ makespan I x
-  plan-no-later = le-trans plan-balanced (found .kept .noLater)
-
-  -- settling's moves are at most half the sum of squared loads of the balanced assignment
-  pub plan-moves : 2 * plan I x .moves ≤ squares I (balance I x .assignment)
-  unfolding plan
-  plan-moves = settle-moves v (found .kept .permitted)
+  pub balanced-no-later : balanced I x .makespan ≤ makespan I x
+  unfolding balanced
+  balanced-no-later = found .kept .noLater
 
   -- the counts are those that the trial of the level kept made
-  pub plan-counts : Counts I x (plan I x .level) (plan I x .lifts) (plan I x .pushes)
-  unfolding plan
-  plan-counts = found .kept .counts
+  pub balanced-counts : Counts I x (balanced I x .level) (balanced I x .lifts) (balanced I x .pushes)
+  unfolding balanced
+  balanced-counts = found .kept .counts
 
-  pub plan-lifts : plan I x .lifts ≤ liftBound I
-  unfolding plan
-  plan-lifts = found .kept .lifts
+  pub balanced-lifts : balanced I x .lifts ≤ liftBound I
+  unfolding balanced
+  balanced-lifts = found .kept .lifts
 
-  pub plan-pushes : plan I x .pushes ≤ pushBound I
-  unfolding plan
-  plan-pushes = found .kept .pushes
+  pub balanced-pushes : balanced I x .pushes ≤ pushBound I
+  unfolding balanced
+  balanced-pushes = found .kept .pushes
 
   -- no load is above level + longest
-  pub plan-loads : plan I x .makespan ≤ plan I x .level + longest I
-  unfolding plan
-  plan-loads = le-trans plan-balanced (makespan-le I (balance I x .assignment) _ (found .kept .loads))
+  pub balanced-loads : balanced I x .makespan ≤ balanced I x .level + longest I
+  unfolding balanced
+  balanced-loads = makespan-le I (balance I x .assignment) _ (found .kept .loads)
 
   -- the level and the group reported: no trial failed and the level is 0, or the level below failed with the group
-  pub plan-showing : Showing I (plan I x .level) (plan I x .group)
-  unfolding plan
-  plan-showing = rw (← found .closed) (found .kept .shown)
+  pub balanced-showing : Showing I (balanced I x .level) (balanced I x .group)
+  unfolding balanced
+  balanced-showing = rw (← found .closed) (found .kept .shown)
 
-  plan-bound : plan I x .lowerBound ≡ lowerBound I (plan I x .group)
-  unfolding plan
-  plan-bound = refl
+  balanced-bound : balanced I x .lowerBound ≡ lowerBound I (balanced I x .group)
+  unfolding balanced
+  balanced-bound = refl
 
   -- ---- with a job
 
@@ -135,20 +146,20 @@ module _ (I : Instance) (x : Assignment) (v : Valid I) (w : Permitted I x) where
     late (showed f g h) y z = omega (arith, shows-late I f g h longest-pos y z)
 
     -- above it by less than longest; all three are multiples of g, so by longest − g or less
-    pub plan-close : (g : ℕ) → multiples I g ≡ true → (y : Assignment) → Permitted I y
-        → closeTo I g (plan I x .makespan) (makespan I y) ≡ true
-    plan-close g e y z =
-        let a : g ∣ plan I x .makespan = rw plan-makespan (makespan-multiple I g e (plan I x .assignment)) in
+    pub balanced-close : (g : ℕ) → multiples I g ≡ true → (y : Assignment) → Permitted I y
+        → closeTo I g (balanced I x .makespan) (makespan I y) ≡ true
+    balanced-close g e y z =
+        let a : g ∣ balanced I x .makespan = rw balanced-makespan (makespan-multiple I g e (balanced I x .assignment)) in
         let b : g ∣ makespan I y + longest I = dvd-add _ (makespan-multiple I g e y) (longest-multiple I g e) in
-        close-mk I _ _ _ (omega (arith, multiples-apart g _ _ a b (omega (arith, plan-loads, late plan-showing y z))))
+        close-mk I _ _ _ (omega (arith, multiples-apart g _ _ a b (omega (arith, balanced-loads, late balanced-showing y z))))
 
     -- the lower bound is one
     below : {p : ℕ} {g : List ℕ} → Showing I p g → (y : Assignment) → Permitted I y → lowerBound I g ≤ makespan I y
     below unfailed y z = bound-le I [] _ (longest-makespan v z) (λ h. absurd (omega arith))
     below (showed f g h) y z = bound-le I g _ (longest-makespan v z) (λ p. share-makespan I y g z (h .group) p)
 
-    pub plan-bound-below : (y : Assignment) → Permitted I y → plan I x .lowerBound ≤ makespan I y
-    plan-bound-below y z = rw plan-bound (below plan-showing y z)
+    pub balanced-bound-below : (y : Assignment) → Permitted I y → balanced I x .lowerBound ≤ makespan I y
+    balanced-bound-below y z = rw balanced-bound (below balanced-showing y z)
 
     -- a failed level's group shows 2 more than it
     share-gt : (f : ℕ) (g : List ℕ) → ShowsLate I f g → suc f < share I g
@@ -159,15 +170,15 @@ module _ (I : Instance) (x : Assignment) (v : Valid I) (w : Permitted I x) where
     above unfailed = omega (arith, bound-longest I [], longest-pos)
     above (showed f g h) = omega (arith, bound-share I g (h .some), share-gt f g h)
 
-    pub plan-near-bound : closeTo I 1 (plan I x .makespan) (plan I x .lowerBound) ≡ true
-    plan-near-bound = close-mk I 1 _ _ (rw plan-bound (omega (arith, plan-loads, above plan-showing)))
+    pub balanced-near-bound : closeTo I 1 (balanced I x .makespan) (balanced I x .lowerBound) ≡ true
+    balanced-near-bound = close-mk I 1 _ _ (rw balanced-bound (omega (arith, balanced-loads, above balanced-showing)))
 
-    pub plan-witness : witnessed I (plan I x .group) (plan I x .lowerBound) ≡ true
-    plan-witness = rw plan-bound (bound-witness I (plan I x .group) some)
+    pub balanced-witness : witnessed I (balanced I x .group) (balanced I x .lowerBound) ≡ true
+    balanced-witness = rw balanced-bound (bound-witness I (balanced I x .group) some)
 
     -- some trial passed: the level kept is below the standing makespan
-    pub plan-level : plan I x .level < makespan I x
-    plan-level = late plan-showing x w
+    pub balanced-level : balanced I x .level < makespan I x
+    balanced-level = late balanced-showing x w
 
     -- where no trial failed, the makespan, the lower bound and the longest length are one number
     unfailed-exact : {p : ℕ} {g : List ℕ} → Showing I p g → g ≡ [] → (p ≡ 0) × (lowerBound I g ≡ longest I)
@@ -175,7 +186,7 @@ module _ (I : Instance) (x : Assignment) (v : Valid I) (w : Permitted I x) where
     unfailed-exact unfailed e = (refl, refl)
     unfailed-exact (showed f g h) e = absurd (omega (arith, h .some, ap length e))
 
-    pub plan-unfailed : plan I x .group ≡ [] → (plan I x .makespan ≡ longest I) × (plan I x .lowerBound ≡ longest I)
-    plan-unfailed e =
-        let r = unfailed-exact plan-showing e in
-        (omega (arith, plan-loads, r .0, longest-makespan v plan-permitted, plan-makespan), plan-bound ∙ r .1)
+    pub balanced-unfailed : balanced I x .group ≡ [] → (balanced I x .makespan ≡ longest I) × (balanced I x .lowerBound ≡ longest I)
+    balanced-unfailed e =
+        let r = unfailed-exact balanced-showing e in
+        (omega (arith, balanced-loads, r .0, longest-makespan v balanced-permitted, balanced-makespan), balanced-bound ∙ r .1)

@@ -1,12 +1,16 @@
--- Lists of calls on the book (document 01, "Runs"): the book stays sound along every list, and each trial and each planning in it
--- keeps what document 01 claims of it.
-use Prim.Native.Nat.{ℕ, _+_, _≤_, _<_}
-use mathlib.Core.Path.{_≡_, refl, _∙_}
-use mathlib.Core.Bool.{true}
+-- Lists of calls on the book (document 01, "Runs"): the book stays sound along every list, and each trial, each balance and each settle
+-- in it keeps what the documents claim of it.
+use Prim.Native.Nat.{ℕ, _+_, _*_, _≤_, _<_}
+use mathlib.Core.Path.{_≡_, refl, sym, ap, ap₂, _∙_}
+use mathlib.Core.Bool.{Bool, true, false}
 use mathlib.Core.List.{List, [], _∷_}
+use native.Mathlib.Nat.{le-trans}
 use native.Mathlib.Omega.{arith}
-use lib.ListN.{length}
-use Rattle.rules.specs.Sheet.{Book, sound}
+use lib.ListN.{length, length-map}
+use borrow.Author.Tests.{le-leb, lt-leb}
+use Rattle.rules.specs.Fold.{pick}
+use Rattle.rules.specs.Refusal.{bufferShort}
+use Rattle.rules.specs.Sheet.{Book, size, sound}
 use Rattle.rules.specs.Read.{read, accepted}
 use Rattle.rules.specs.Rewrite.{written}
 use Rattle.rules.specs.Edit.{Edit, Edited, refused, edited, edit}
@@ -14,23 +18,29 @@ use Rattle.rules.specs.Instance.{Instance, Assignment, instance, places, n}
 use Rattle.rules.specs.Load.{longest, makespan, equilibrium, review}
 use Rattle.rules.specs.Trial.{atLevel, ended, liftBound, pushBound}
 use Rattle.rules.specs.Group.{trial}
+use Rattle.rules.specs.Settle.{squares}
 use Rattle.rules.specs.LowerBound.{witnessed}
 use Rattle.rules.specs.Round.{multiples, equalLengths, closeTo}
-use Rattle.rules.specs.Run.{Call, editing, reviewing, trying, planning, next, bookAfter, editBook, planBook}
+use Rattle.rules.specs.Moves.{Move, follow}
+use Rattle.rules.specs.Plan.{rested, plan}
+use Rattle.rules.specs.Run.{Call, editing, reviewing, trying, balancing, settling, Answer, balanced, settled, answer, next, bookAfter, editBook, balanceBook, settleBook, roomy, recordsTo, withPlaces}
+use Rattle.rules.specs.Run as R
+use Rattle.rules.specs.Listing.{planBook}
 use Rattle.theory.proofs.Valid.{Valid, Permitted}
-use Rattle.theory.proofs.Sound.{read-sound, edit-sound, sound-valid, sound-permitted, placed-sound, placed-places, placed-instance, jobs-count}
+use Rattle.theory.proofs.Sound.{read-sound, edit-sound, sound-valid, sound-permitted, placed-sound, placed-places, placed-instance, placed-again, jobs-count}
+use Rattle.theory.proofs.Records.{records-lead}
 use Rattle.theory.proofs.Rewrite.{read-written, most-written}
 use Rattle.theory.proofs.Review.{Improves, review-settled, settled-review, settled-none, none-settled}
 use Rattle.theory.proofs.Heights.{permitted-partial}
 use Rattle.theory.proofs.Ending.{trial-lifts, trial-pushes}
 use Rattle.theory.proofs.Trial.{Outcome, outcome}
 use Rattle.theory.proofs.Balancing.{Counts}
-use Rattle.theory.proofs.Round.{close-le, multiples-one, multiples-equal}
-use Rattle.theory.proofs.Planning.{plan-permitted, plan-settled, plan-counts, plan-makespan, plan-no-later, plan-close, plan-bound-below, plan-near-bound, plan-witness}
+use Rattle.theory.proofs.Round.{close-mk, close-le, multiples-one, multiples-equal}
+use Rattle.theory.proofs.Planning.{rested-permitted, rested-settled, rested-makespan, rested-no-later, rested-moves, balanced-permitted, balanced-makespan, balanced-no-later, balanced-counts, balanced-close, balanced-bound-below, balanced-near-bound, balanced-witness}
 
 -- ---- what is claimed on a book
 
--- of every trial, whatever its level, whether planning makes it or the host asks for it
+-- of every trial, whatever its level, whether balance makes it or the host asks for it
 pub record Trials (k : Book) : Type 0 where
   pub lifts : (a : ℕ) → ended (instance k) (places k) a .lifts ≤ liftBound (instance k)
   pub pushes : (a : ℕ) → ended (instance k) (places k) a .pushes ≤ pushBound (instance k)
@@ -38,25 +48,60 @@ pub record Trials (k : Book) : Type 0 where
   pub permitted : Permitted (instance k) (places k)
   pub outcomes : (a : ℕ) → Outcome (instance k) (places k) valid permitted a (trial (instance k) (places k) a)
 
--- of planning, on any book; the counts it shows are those that the trial of its level made
+-- Of a call with a list lent for its records that leaves the assignment x. With an entry for each batch it answers its figures, with the
+-- records that lead from the book's places to x; the book after it has the places of x, and differs in nothing else that plans look at.
+-- With fewer it is refused, and the book stays.
+pub record Lends (k : Book) (call : ℕ → Call) (said : List Move → Answer) (x : Assignment) : Type 0 where
+  pub answers : (c : ℕ) → size k ≤ c → answer k (call c) ≡ said (recordsTo k x)
+  pub leads : follow (recordsTo k x) (places k) ≡ x
+  pub entered : (c : ℕ) → size k ≤ c → places (next k (call c)) ≡ x
+  pub same : (c : ℕ) → instance (next k (call c)) ≡ instance k
+  pub short : (c : ℕ) → c < size k → answer k (call c) ≡ R.refused bufferShort
+  pub stays : (c : ℕ) → c < size k → next k (call c) ≡ k
+
+-- of balance, on any book; the counts it shows are those that the trial of its level made
+pub record Balances (k : Book) : Type 0 where
+  pub noLater : balanceBook k .makespan ≤ makespan (instance k) (places k)
+  pub permitted : Permitted (instance k) (balanceBook k .assignment)
+  pub makespan : balanceBook k .makespan ≡ makespan (instance k) (balanceBook k .assignment)
+  pub counts : Counts (instance k) (places k) (balanceBook k .level) (balanceBook k .lifts) (balanceBook k .pushes)
+  pub lends : Lends k balancing (balanced (balanceBook k)) (balanceBook k .assignment)
+
+-- of settle, on any book; its moves are at most half the sum of squared loads
+pub record Settles (k : Book) : Type 0 where
+  pub lends : Lends k settling (settled (settleBook k)) (settleBook k .assignment)
+  pub noLater : settleBook k .makespan ≤ makespan (instance k) (places k)
+  pub permitted : Permitted (instance k) (settleBook k .assignment)
+  pub makespan : settleBook k .makespan ≡ makespan (instance k) (settleBook k .assignment)
+  pub settled : equilibrium (instance k) (settleBook k .assignment) ≡ true
+  pub moves : 2 * settleBook k .moves ≤ squares (instance k) (places k)
+
+-- On a book with a batch, of a finish after balance: for each g of which all lengths are multiples, at most longest − g above any
+-- permitted plan; and at most longest − 1 above the lower bound, which no permitted plan is below, and which has its witness.
+pub record Bounds (k : Book) (finish : ℕ) : Type 0 where
+  pub close : (g : ℕ) → multiples (instance k) g ≡ true → (y : Assignment) → Permitted (instance k) y
+      → closeTo (instance k) g finish (makespan (instance k) y) ≡ true
+  pub below : (y : Assignment) → Permitted (instance k) y → balanceBook k .lowerBound ≤ makespan (instance k) y
+  pub near : closeTo (instance k) 1 finish (balanceBook k .lowerBound) ≡ true
+  pub witness : witnessed (instance k) (balanceBook k .group) (balanceBook k .lowerBound) ≡ true
+
+-- Of settle straight after balance, whatever lists of enough entries are lent: what planning had. The makespan and the moves are settle's,
+-- and the rest is balance's.
 pub record Plans (k : Book) : Type 0 where
+  pub said : (c d : ℕ) → size k ≤ c → size k ≤ d → answer (next k (balancing c)) (settling d)
+      ≡ settled (record { makespan = planBook k .makespan; moves = planBook k .moves; assignment = planBook k .assignment })
+      (recordsTo (next k (balancing c)) (planBook k .assignment))
+  pub lowerBound : planBook k .lowerBound ≡ balanceBook k .lowerBound
+  pub level : planBook k .level ≡ balanceBook k .level
+  pub lifts : planBook k .lifts ≡ balanceBook k .lifts
+  pub pushes : planBook k .pushes ≡ balanceBook k .pushes
+  pub group : planBook k .group ≡ balanceBook k .group
+  pub book : (c d : ℕ) → size k ≤ c → size k ≤ d → next (next k (balancing c)) (settling d) ≡ withPlaces k (planBook k .assignment)
   pub noLater : planBook k .makespan ≤ makespan (instance k) (places k)
   pub permitted : Permitted (instance k) (planBook k .assignment)
-  pub makespan : planBook k .makespan ≡ makespan (instance k) (planBook k .assignment)
   pub settled : equilibrium (instance k) (planBook k .assignment) ≡ true
-  -- the book after it has these places, and differs in nothing else that plans look at
-  pub entered : places (next k planning) ≡ planBook k .assignment
-  pub same : instance (next k planning) ≡ instance k
-  pub counts : Counts (instance k) (places k) (planBook k .level) (planBook k .lifts) (planBook k .pushes)
-
--- of planning, on a book with a batch: for each g of which all lengths are multiples, at most longest − g above any permitted plan; and
--- at most longest − 1 above the lower bound
-pub record Bounds (k : Book) : Type 0 where
-  pub close : (g : ℕ) → multiples (instance k) g ≡ true → (y : Assignment) → Permitted (instance k) y
-      → closeTo (instance k) g (planBook k .makespan) (makespan (instance k) y) ≡ true
-  pub below : (y : Assignment) → Permitted (instance k) y → planBook k .lowerBound ≤ makespan (instance k) y
-  pub near : closeTo (instance k) 1 (planBook k .makespan) (planBook k .lowerBound) ≡ true
-  pub witness : witnessed (instance k) (planBook k .group) (planBook k .lowerBound) ≡ true
+  pub bounds : 0 < n (instance k) → Bounds k (planBook k .makespan)
+  pub makespan : planBook k .makespan ≡ makespan (instance k) (planBook k .assignment)
 
 -- of review: settled is answered exactly when no batch improves
 pub record Reviews (k : Book) : Type 0 where
@@ -74,16 +119,144 @@ pub record Claims (k : Book) : Type 0 where
   pub files : Files k
   pub reviews : Reviews k
   pub trials : Trials k
+  pub balances : Balances k
+  pub bounds : 0 < n (instance k) → Bounds k (balanceBook k .makespan)
+  pub settles : Settles k
   pub plans : Plans k
-  pub bounds : 0 < n (instance k) → Bounds k
 
-next-places : (k : Book) → Permitted (instance k) (planBook k .assignment) → places (next k planning) ≡ planBook k .assignment
-unfolding next
-next-places k w = placed-places k (planBook k .assignment) (w .size ∙ jobs-count k)
+-- ---- lent lists
 
-next-instance : (k : Book) → instance (next k planning) ≡ instance k
+roomy-yes : (k : Book) (c : ℕ) → size k ≤ c → roomy k c ≡ true
+roomy-yes k c h = le-leb (size k) c h
+
+roomy-no : (k : Book) (c : ℕ) → c < size k → roomy k c ≡ false
+roomy-no k c h = lt-leb (size k) c h
+
+places-length : (k : Book) → length (places k) ≡ size k
+places-length k = length-map (k .batches) _
+
+module _ (k : Book) (x : Assignment) (w : Permitted (instance k) x) where
+  placed-at : places (withPlaces k x) ≡ x
+  placed-at = placed-places k x (w .size ∙ jobs-count k)
+
+  picked-instance : (t : Bool) → instance (pick t (withPlaces k x) k) ≡ instance k
+  picked-instance true = placed-instance k x
+  picked-instance false = refl
+
+balance-lends : (k : Book) → Permitted (instance k) (balanceBook k .assignment) → Lends k balancing (balanced (balanceBook k)) (balanceBook k .assignment)
+unfolding answer next
+balance-lends k w = record {
+  answers = λ c h. rw (roomy-yes k c h);
+  leads = records-lead (size k) (places k) _ (places-length k) (w .size ∙ jobs-count k);
+  entered = λ c h. rw (roomy-yes k c h) (placed-at k _ w);
+  same = λ c. picked-instance k _ w (roomy k c);
+  short = λ c h. rw (roomy-no k c h);
+  stays = λ c h. rw (roomy-no k c h);
+}
+
+settle-lends : (k : Book) → Permitted (instance k) (settleBook k .assignment) → Lends k settling (settled (settleBook k)) (settleBook k .assignment)
+unfolding answer next
+settle-lends k w = record {
+  answers = λ c h. rw (roomy-yes k c h);
+  leads = records-lead (size k) (places k) _ (places-length k) (w .size ∙ jobs-count k);
+  entered = λ c h. rw (roomy-yes k c h) (placed-at k _ w);
+  same = λ c. picked-instance k _ w (roomy k c);
+  short = λ c h. rw (roomy-no k c h);
+  stays = λ c h. rw (roomy-no k c h);
+}
+
+-- ---- every call leaves a sound book sound
+
+balance-permitted : (k : Book) → sound k ≡ true → Permitted (instance k) (balanceBook k .assignment)
+balance-permitted k h = balanced-permitted (instance k) (places k) (sound-valid k h) (sound-permitted k h)
+
+settle-permitted : (k : Book) → sound k ≡ true → Permitted (instance k) (settleBook k .assignment)
+settle-permitted k h = rested-permitted (sound-valid k h) (sound-permitted k h)
+
+picked-sound : (k : Book) (x : Assignment) → sound k ≡ true → Permitted (instance k) x → (t : Bool) → sound (pick t (withPlaces k x) k) ≡ true
+picked-sound k x h w true = placed-sound k x h w
+picked-sound k x h w false = h
+
+edited-sound : (k : Book) (e : Edit) → sound k ≡ true → (o : Edited) → edit k e ≡ o → sound (editBook k o) ≡ true
+edited-sound k e h (refused r) q = h
+edited-sound k e h (edited j) q = edit-sound k e j h q
+
+-- refused or not
+pub next-sound : (k : Book) (c : Call) → sound k ≡ true → sound (next k c) ≡ true
 unfolding next
-next-instance k = placed-instance k (planBook k .assignment)
+next-sound k (editing e) h = edited-sound k e h (edit k e) refl
+next-sound k reviewing h = h
+next-sound k (trying a) h = h
+next-sound k (balancing c) h = picked-sound k _ h (balance-permitted k h) (roomy k c)
+next-sound k (settling c) h = picked-sound k _ h (settle-permitted k h) (roomy k c)
+
+-- ---- an earlier finish keeps the bounds
+
+bounds-earlier : {k : Book} {f e : ℕ} → e ≤ f → Bounds k f → Bounds k e
+bounds-earlier {k} {f} {e} h b =
+    let sooner : (g v : ℕ) → closeTo (instance k) g f v ≡ true → closeTo (instance k) g e v ≡ true =
+    λ g v c. close-mk (instance k) g e v (omega (arith, close-le (instance k) g f v c)) in
+    record {
+      close = λ g m y w. sooner g _ (b .close g m y w);
+      below = b .below;
+      near = sooner 1 _ (b .near);
+      witness = b .witness;
+    }
+
+-- ---- settle straight after balance
+
+-- settle on a book with other places
+pub settle-placed : (k : Book) (x : Assignment) → Permitted (instance k) x → settleBook (withPlaces k x) ≡ rested (instance k) x
+settle-placed k x w = ap₂ rested (placed-instance k x) (placed-at k x w)
+
+module _ (k : Book) (e : sound k ≡ true) where
+  abbrev I : Instance
+  I = instance k
+
+  v : Valid I
+  v = sound-valid k e
+
+  abbrev x : Assignment
+  x = balanceBook k .assignment
+
+  w : Permitted I x
+  w = balance-permitted k e
+
+  after : (c : ℕ) → size k ≤ c → next k (balancing c) ≡ withPlaces k x
+  unfolding next
+  after c h = rw (roomy-yes k c h)
+
+  enough : (d : ℕ) → size k ≤ d → roomy (withPlaces k x) d ≡ true
+  enough d h =
+      let m : size (withPlaces k x) ≡ size k = sym (jobs-count (withPlaces k x)) ∙ ap n (placed-instance k x) ∙ jobs-count k in
+      roomy-yes (withPlaces k x) d (omega arith)
+
+  after-said : (d : ℕ) → size k ≤ d
+      → answer (withPlaces k x) (settling d) ≡ settled (rested I x) (recordsTo (withPlaces k x) (rested I x .assignment))
+  unfolding answer
+  after-said d h = rw (enough d h, settle-placed k x w)
+
+  after-both : (d : ℕ) → size k ≤ d → next (withPlaces k x) (settling d) ≡ withPlaces k (rested I x .assignment)
+  unfolding next
+  after-both d h =
+      rw (enough d h, settle-placed k x w) (placed-again k x (rested I x .assignment) (rested-permitted v w .size ∙ jobs-count k))
+
+  planned : ((some : 0 < n I) → Bounds k (balanceBook k .makespan)) → Plans k
+  unfolding plan
+  planned bounds = record {
+    said = λ c d h g. rw (after c h) (after-said d g);
+    lowerBound = refl;
+    level = refl;
+    lifts = refl;
+    pushes = refl;
+    group = refl;
+    book = λ c d h g. rw (after c h) (after-both d g);
+    makespan = rested-makespan v w;
+    noLater = le-trans (rested-no-later v w) (rw (← balanced-makespan I (places k) v (sound-permitted k e)) (balanced-no-later I (places k) v (sound-permitted k e)));
+    permitted = rested-permitted v w;
+    settled = rested-settled v w;
+    bounds = λ some. bounds-earlier (rw (balanced-makespan I (places k) v (sound-permitted k e)) (rested-no-later v w)) (bounds some);
+  }
 
 pub sound-claims : (k : Book) → sound k ≡ true → Claims k
 sound-claims k e =
@@ -91,6 +264,12 @@ sound-claims k e =
     let x = places k in
     let v = sound-valid k e in
     let w = sound-permitted k e in
+    let bounds : (0 < n I) → Bounds k (balanceBook k .makespan) = λ some. record {
+      close = balanced-close I x v w some;
+      below = balanced-bound-below I x v w some;
+      near = balanced-near-bound I x v w some;
+      witness = balanced-witness I x v w some;
+    } in
     record {
       sound = e;
       files = record { same = read-written k e; few = most-written k e };
@@ -105,54 +284,41 @@ sound-claims k e =
         permitted = w;
         outcomes = λ a. outcome I x v w a;
       };
-      plans = record {
-        noLater = plan-no-later I x v w;
-        permitted = plan-permitted I x v w;
-        makespan = plan-makespan I x v w;
-        settled = plan-settled I x v w;
-        entered = next-places k (plan-permitted I x v w);
-        same = next-instance k;
-        counts = plan-counts I x v w;
+      balances = record {
+        noLater = balanced-no-later I x v w;
+        permitted = balance-permitted k e;
+        makespan = balanced-makespan I x v w;
+        counts = balanced-counts I x v w;
+        lends = balance-lends k (balance-permitted k e);
       };
-      bounds = λ some. record {
-        close = plan-close I x v w some;
-        below = plan-bound-below I x v w some;
-        near = plan-near-bound I x v w some;
-        witness = plan-witness I x v w some;
+      bounds = bounds;
+      settles = record {
+        noLater = rested-no-later v w;
+        permitted = settle-permitted k e;
+        makespan = rested-makespan v w;
+        settled = rested-settled v w;
+        moves = rested-moves v w;
+        lends = settle-lends k (settle-permitted k e);
       };
+      plans = planned k e bounds;
     }
 
 -- ---- what the bound says for any lengths, and for equal ones
 
-module _ {k : Book} (h : Bounds k) where
-  abbrev I : Instance
-  I = instance k
-
-  close-at : (g : ℕ) → multiples I g ≡ true → (y : Assignment) → Permitted I y → planBook k .makespan + g ≤ makespan I y + longest I
-  close-at g e y w = close-le I g _ _ (h .close g e y w)
+module _ {k : Book} {finish : ℕ} (h : Bounds k finish) where
+  close-at : (g : ℕ) → multiples (instance k) g ≡ true → (y : Assignment) → Permitted (instance k) y
+      → finish + g ≤ makespan (instance k) y + longest (instance k)
+  close-at g e y w = close-le (instance k) g _ _ (h .close g e y w)
 
   -- g = 1: at most longest − 1 above any permitted plan
-  pub close-any : (y : Assignment) → Permitted I y → planBook k .makespan + 1 ≤ makespan I y + longest I
-  close-any = close-at 1 (multiples-one I)
+  pub close-any : (y : Assignment) → Permitted (instance k) y → finish + 1 ≤ makespan (instance k) y + longest (instance k)
+  close-any = close-at 1 (multiples-one (instance k))
 
   -- g = longest: a best plan
-  pub close-equal : equalLengths I ≡ true → (y : Assignment) → Permitted I y → planBook k .makespan ≤ makespan I y
-  close-equal e y w = omega (arith, close-at (longest I) (multiples-equal I e) y w)
+  pub close-equal : equalLengths (instance k) ≡ true → (y : Assignment) → Permitted (instance k) y → finish ≤ makespan (instance k) y
+  close-equal e y w = omega (arith, close-at (longest (instance k)) (multiples-equal (instance k) e) y w)
 
 -- ---- along a list of calls
-
-edited-sound : (k : Book) (e : Edit) → sound k ≡ true → (o : Edited) → edit k e ≡ o → sound (editBook k o) ≡ true
-edited-sound k e h (refused r) q = h
-edited-sound k e h (edited j) q = edit-sound k e j h q
-
--- every call, refused or not, leaves a sound book sound
-pub next-sound : (k : Book) (c : Call) → sound k ≡ true → sound (next k c) ≡ true
-unfolding next
-next-sound k (editing e) h = edited-sound k e h (edit k e) refl
-next-sound k reviewing h = h
-next-sound k (trying a) h = h
-next-sound k planning h =
-    placed-sound k (planBook k .assignment) h (plan-permitted (instance k) (places k) (sound-valid k h) (sound-permitted k h))
 
 pub after-sound : (k : Book) (cs : List Call) → sound k ≡ true → sound (bookAfter k cs) ≡ true
 unfolding bookAfter

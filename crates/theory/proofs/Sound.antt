@@ -11,7 +11,7 @@ use borrow.Author.Tests.{leb-true, ltb-true, eqb-true, le-leb}
 use Rattle.rules.specs.Fold.{_or_, at, mem, every}
 use Rattle.rules.specs.Refusal.{Refusal}
 use Rattle.rules.specs.Sheet.{Batch, Book, size, batch, noBatchHere, isBatch, head, maxBatches, goodInstruments, goodMinutes, isInstrument, goodList, goodBatch, sound}
-use Rattle.rules.specs.Edit.{Edit, add, withdraw, requalify, move, Edited, edited, unless, kept, without, withBatch, edit}
+use Rattle.rules.specs.Edit.{Edit, add, withdraw, requalify, move, Edited, edited, unless, kept, without, withBatch, edit, withBatches}
 use Rattle.rules.specs.Instance.{Assignment, Job, noJob, n, jobOf, instance, places, minutesOf, eligible}
 use Rattle.rules.specs.Read.{accepted, placeOr, read}
 use Rattle.rules.specs.Render.{givenNumber, Described, Description, batchWithinLimits, withinLimits, placed, bookSaid}
@@ -257,6 +257,17 @@ placed-at (b ∷ bs) (p ∷ x) h = ap (λ (r : List ℕ). p ∷ r) (placed-at bs
 
 pub placed-places : (k : Book) (x : Assignment) → length x ≡ size k → places (withPlaces k x) ≡ x
 placed-places k x h = placed-at (k .batches) x h
+
+-- places entered over others
+all-again : (bs : List Batch) (x y : Assignment) → length y ≡ length bs → placeAll (placeAll bs x) y ≡ placeAll bs y
+all-again [] x y h = refl
+all-again (b ∷ bs) [] y h = refl
+all-again (b ∷ bs) (p ∷ x) [] h = absurd (omega arith)
+all-again (b ∷ bs) (p ∷ x) (q ∷ y) h =
+    ap (λ (r : List Batch). record { minutes = b .minutes; list = b .list; place = q } ∷ r) (all-again bs x y (omega arith))
+
+pub placed-again : (k : Book) (x y : Assignment) → length y ≡ size k → withPlaces (withPlaces k x) y ≡ withPlaces k y
+placed-again k x y h = ap (withBatches k) (all-again (k .batches) x y h)
 
 placed-length : (bs : List Batch) (x : Assignment) → length (placeAll bs x) ≡ length bs
 placed-length [] x = refl

@@ -379,7 +379,8 @@ pub fn reviews_and_trials(seed: u64, count: usize) -> Vec<Case> {
 }
 
 /// Calls of every kind in any order on one sheet, good and bad arguments
-/// mixed, each on what the one before left.
+/// mixed, each on what the one before left. Balance and settle come in either
+/// order, alone and more than once.
 pub fn runs(seed: u64, count: usize) -> Vec<Case> {
     let mut rng = Rng::new(seed);
     let case = |_| {
@@ -387,12 +388,17 @@ pub fn runs(seed: u64, count: usize) -> Vec<Case> {
         let mut sheet = draft.sheet();
         let mut calls = Vec::new();
         for _ in 0..rng.within(1, 16) {
-            let call = match rng.below(8) {
+            let call = match rng.below(11) {
                 0 => Call::Review,
                 1 => Call::Trial {
                     level: rng.below(sheet.total() as u64 + 3),
                 },
-                2 | 3 => Call::Plan,
+                2..=4 => Call::Balance {
+                    entries: entries(&mut rng, &sheet),
+                },
+                5 | 6 => Call::Settle {
+                    entries: entries(&mut rng, &sheet),
+                },
                 _ => edit(&mut rng, &sheet),
             };
             apply(&mut sheet, &call);
@@ -558,6 +564,21 @@ fn instrument(rng: &mut Rng, sheet: &Sheet, number: u64) -> u64 {
         Some(batch) if !rng.once_in(3) => *rng.pick(&batch.list) as u64,
         Some(batch) if rng.once_in(2) => edge(rng, batch.place as u64),
         _ => rng.below(m + 2),
+    }
+}
+
+/// Entries of a list for records, most often enough of them.
+fn entries(rng: &mut Rng, sheet: &Sheet) -> u64 {
+    let n = sheet.batches().len() as u64;
+    match rng.below(12) {
+        0 => 0,
+        1 => rng.below(n + 1),
+        2 => n.saturating_sub(1),
+        3..=6 => n,
+        7 | 8 => n + 1,
+        9 => n + rng.below(200),
+        10 => Sheet::BATCHES as u64,
+        _ => GREATEST,
     }
 }
 

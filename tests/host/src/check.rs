@@ -2,6 +2,7 @@
 //! they return, the text, and every byte of the buffer and around it.
 
 use std::collections::BTreeSet;
+use std::fmt::Debug;
 
 use second::gen;
 
@@ -9,13 +10,13 @@ use crate::cases::Case;
 use crate::due::Due;
 use crate::listing::{Listing, MOST};
 use crate::share::shared;
-use crate::{plan, plan_second, rewrite, Hosted};
+use crate::{plan, plan_second, rewrite, Hosted, Move};
 
 /// The fewest bytes that a listing has: that of a sheet without a batch. A
 /// written sheet has more than the two that a room may be short of.
 pub const LEAST: usize = 43 + 7;
 
-/// Bytes watched on either side of a buffer.
+/// Bytes watched on either side of a buffer, and entries of a list.
 const MARGIN: usize = 64;
 
 /// Buffers by their size beside that of the text, which counts as the least
@@ -82,42 +83,73 @@ pub fn rewritten_due(sheet: &[u8]) -> Due {
     }
 }
 
-/// Memory to lend, watched within the buffer and on either side of it.
-#[derive(Default)]
-pub struct Lent {
-    /// Bytes that are in no text, and differ from their neighbours.
-    clean: Vec<u8>,
-    bytes: Vec<u8>,
+/// What a buffer or a list is made of.
+pub trait Item: Copy + Debug + PartialEq {
+    /// One that is in no text and in no record, and differs from its neighbours.
+    fn unused(place: usize) -> Self;
+
+    /// These in words.
+    fn shown(items: &[Self]) -> String;
 }
 
-impl Lent {
-    /// Lend a buffer of this size; gives what the call returns.
-    pub fn lend<R>(&mut self, size: usize, call: impl FnOnce(&mut [u8]) -> R) -> R {
-        let all = size + 2 * MARGIN;
-        let known = self.clean.len();
-        self.clean
-            .extend((known..all).map(|k| 0x80 | (k * 37 % 128) as u8));
-        self.bytes.clear();
-        self.bytes.extend(&self.clean[..all]);
-        call(&mut self.bytes[MARGIN..MARGIN + size])
+impl Item for u8 {
+    fn unused(place: usize) -> u8 {
+        0x80 | (place * 37 % 128) as u8
     }
 
-    /// This text is at the front of the buffer last lent, and all other bytes
-    /// are as they were.
-    pub fn holds(&self, text: &[u8]) -> Result<(), String> {
-        let (lent, clean) = (&self.bytes, &self.clean[..self.bytes.len()]);
-        let end = MARGIN + text.len();
+    fn shown(items: &[u8]) -> String {
+        String::from_utf8_lossy(items).into()
+    }
+}
+
+impl Item for Move {
+    fn unused(place: usize) -> Move {
+        let number = 0x8000_0000 | (place as u32 * 37);
+        Move {
+            batch: number,
+            from: !number,
+            to: number + 1,
+        }
+    }
+
+    fn shown(items: &[Move]) -> String {
+        format!("{items:?}")
+    }
+}
+
+/// Memory to lend, watched within the buffer or list and on either side of it.
+#[derive(Default)]
+pub struct Lent<T> {
+    clean: Vec<T>,
+    items: Vec<T>,
+}
+
+impl<T: Item> Lent<T> {
+    /// Lend so much; gives what the call returns.
+    pub fn lend<R>(&mut self, size: usize, call: impl FnOnce(&mut [T]) -> R) -> R {
+        let all = size + 2 * MARGIN;
+        let known = self.clean.len();
+        self.clean.extend((known..all).map(T::unused));
+        self.items.clear();
+        self.items.extend(&self.clean[..all]);
+        call(&mut self.items[MARGIN..MARGIN + size])
+    }
+
+    /// These are at the front of what was last lent, and all else is as it was.
+    pub fn holds(&self, front: &[T]) -> Result<(), String> {
+        let (lent, clean) = (&self.items, &self.clean[..self.items.len()]);
+        let end = MARGIN + front.len();
         if lent[..MARGIN] != clean[..MARGIN] {
-            return Err("bytes before the buffer changed".into());
+            return Err("what stands before the lent place changed".into());
         }
         if lent[end..] != clean[end..] {
-            return Err("bytes past the text changed".into());
+            return Err("what stands past the answer changed".into());
         }
-        if lent[MARGIN..end] != *text {
+        if lent[MARGIN..end] != *front {
             return Err(format!(
-                "text:\n{}\nexpected:\n{}",
-                String::from_utf8_lossy(&lent[MARGIN..end]),
-                String::from_utf8_lossy(text)
+                "written:\n{}\nexpected:\n{}",
+                T::shown(&lent[MARGIN..end]),
+                T::shown(front)
             ));
         }
         Ok(())
@@ -127,7 +159,7 @@ impl Lent {
 /// Makes calls with a sheet and watches the memory that it lends.
 pub struct Judge<P> {
     planner: P,
-    lent: Lent,
+    lent: Lent<u8>,
 }
 
 /// Calls by refusal number, 0 for none, and by kind of buffer.

@@ -1,7 +1,7 @@
 //! A journal's text, a reader of it, and the text of the answers that the
 //! second planner gives.
 
-use second::{apply, Answer, Call, Sheet, Verdict};
+use second::{apply, Answer, Call, Move, Sheet, Verdict};
 
 /// The greatest number that a field holds.
 pub const GREATEST: u64 = 999_999;
@@ -15,7 +15,8 @@ pub fn kind(call: &Call) -> u64 {
         Call::Move { .. } => 4,
         Call::Review => 5,
         Call::Trial { .. } => 6,
-        Call::Plan => 7,
+        Call::Balance { .. } => 7,
+        Call::Settle { .. } => 8,
     }
 }
 
@@ -30,7 +31,8 @@ pub fn numbers(call: &Call) -> Vec<u64> {
         Call::Withdraw { number } => numbers.push(*number),
         Call::Move { number, instrument } => numbers.extend([number, instrument]),
         Call::Trial { level } => numbers.push(*level),
-        Call::Review | Call::Plan => {}
+        Call::Balance { entries } | Call::Settle { entries } => numbers.push(*entries),
+        Call::Review => {}
     }
     numbers
 }
@@ -87,7 +89,8 @@ fn call(line: &[u8]) -> Option<Call> {
         [4, number, instrument] => Call::Move { number, instrument },
         [5] => Call::Review,
         [6, level] => Call::Trial { level },
-        [7] => Call::Plan,
+        [7, entries] => Call::Balance { entries },
+        [8, entries] => Call::Settle { entries },
         _ => return None,
     })
 }
@@ -97,6 +100,14 @@ fn call(line: &[u8]) -> Option<Call> {
 fn field(text: &str) -> Option<u64> {
     let number: u64 = text.trim_start_matches(' ').parse().ok()?;
     (format!("{number:>6}") == text).then_some(number)
+}
+
+fn put_records(text: &mut Vec<u8>, records: &[Move]) {
+    put_numbers(text, [records.len() as u64]);
+    for record in records {
+        let numbers = [record.batch, record.from, record.to];
+        put_numbers(text, numbers.map(u64::from));
+    }
 }
 
 /// Add the line of an answer.
@@ -117,20 +128,25 @@ pub fn put_answer(text: &mut Vec<u8>, answer: &Answer) {
                 Verdict::Fail(group) => put_numbers(text, group.iter().map(|&j| j as u64)),
             }
         }
-        Answer::Plan(plan) => {
+        Answer::Balance(balanced) => {
             let figures = [
                 0,
-                plan.finish,
-                plan.floor,
-                plan.level,
-                plan.raises,
-                plan.bumps,
+                balanced.finish,
+                balanced.floor,
+                balanced.level,
+                balanced.raises,
+                balanced.bumps,
             ];
             put_numbers(text, figures.map(u64::from));
-            put_columns::<12>(text, plan.moves);
-            let group = plan.group.as_deref().unwrap_or(&[]);
+            let group = balanced.group.as_deref().unwrap_or(&[]);
             put_numbers(text, [group.len() as u64]);
             put_numbers(text, group.iter().map(|&j| j as u64));
+            put_records(text, &balanced.records);
+        }
+        Answer::Settle(settled) => {
+            put_numbers(text, [0, settled.finish as u64]);
+            put_columns::<12>(text, settled.moves);
+            put_records(text, &settled.records);
         }
     }
     text.push(b'\n');

@@ -1,10 +1,13 @@
 //! The planner as a host program calls it: bytes go in, and a text comes back
 //! in a lent buffer. From a sheet it is the listing; from a sheet and a journal
-//! the answers to the journal's calls, or the sheet as these leave it.
+//! the answers to the journal's calls, or the sheet as these leave it. Balance
+//! and settle take a sheet alone and give it back, with records of their moves
+//! in a lent list.
 
 pub mod cases;
 pub mod check;
 pub mod due;
+pub mod filed;
 pub mod journal;
 pub mod kinds;
 pub mod listing;
@@ -22,6 +25,51 @@ pub struct Hosted {
     pub line: usize,
     pub length: usize,
 }
+
+/// A record: a batch that is elsewhere than before.
+#[repr(C)]
+#[derive(Clone, Copy, Debug, Default, PartialEq, Eq)]
+pub struct Move {
+    pub batch: u32,
+    pub from: u32,
+    pub to: u32,
+}
+
+/// What balancing a file returns: how many bytes the new sheet has, the figures
+/// and how many records there are, or a refusal with its line (0 where the list
+/// or the buffer is too short) and 0 for all else.
+#[repr(C)]
+#[derive(Clone, Copy, Debug, Default, PartialEq, Eq)]
+pub struct Balanced {
+    pub refusal: u32,
+    pub line: usize,
+    pub length: usize,
+    pub finish: u32,
+    pub floor: u32,
+    pub level: u32,
+    pub raises: u32,
+    pub bumps: u32,
+    /// How many of the group's bytes are instruments; the rest are 0.
+    pub size: usize,
+    pub group: [u8; 24],
+    pub records: usize,
+}
+
+/// What settling a file returns, in the same way.
+#[repr(C)]
+#[derive(Clone, Copy, Debug, Default, PartialEq, Eq)]
+pub struct Settled {
+    pub refusal: u32,
+    pub line: usize,
+    pub length: usize,
+    pub finish: u32,
+    pub moves: u64,
+    pub records: usize,
+}
+
+// As in C.
+const _: () = assert!(size_of::<Hosted>() == 24 && size_of::<Move>() == 12);
+const _: () = assert!(size_of::<Balanced>() == 88 && size_of::<Settled>() == 48);
 
 extern "C" {
     fn bankplan_plan(
@@ -48,6 +96,24 @@ extern "C" {
         written: *mut u8,
         written_len: usize,
     ) -> Hosted;
+
+    fn bankplan_balance(
+        sheet: *const u8,
+        sheet_len: usize,
+        moves: *mut Move,
+        moves_len: usize,
+        written: *mut u8,
+        written_len: usize,
+    ) -> Balanced;
+
+    fn bankplan_settle(
+        sheet: *const u8,
+        sheet_len: usize,
+        moves: *mut Move,
+        moves_len: usize,
+        written: *mut u8,
+        written_len: usize,
+    ) -> Settled;
 }
 
 /// The sheet of document 01's first case.
@@ -60,6 +126,10 @@ pub const SHEET: &str = "     2     3
 /// The most bytes that a written sheet has: 200 batches, each with a list of
 /// 24 instruments.
 pub const LARGEST_SHEET: usize = 13 + 200 * (6 * 27 + 1);
+
+/// No answer's line has more bytes: a balance of 200 batches that all move, with
+/// a group of 24, would have so many.
+pub const LONGEST_ANSWER: usize = 6 * (1 + 6 + 24 + 1 + 3 * 200) + 1;
 
 /// Read the sheet, plan it and write the listing to the front of the buffer.
 /// This is the proved code.
@@ -113,6 +183,39 @@ pub fn write(sheet: &[u8], journal: &[u8], written: &mut [u8]) -> Hosted {
 /// The same without a call.
 pub fn rewrite(sheet: &[u8], written: &mut [u8]) -> Hosted {
     write(sheet, &[], written)
+}
+
+/// Read the sheet, balance it, and write the records to the front of the list
+/// and the sheet that is left to the front of the buffer. This is the proved
+/// code.
+pub fn balance(sheet: &[u8], moves: &mut [Move], written: &mut [u8]) -> Balanced {
+    // SAFETY: the call takes any bytes and any three lengths, reads the first
+    // slice, writes to the other two and keeps none. Its record has this form.
+    unsafe {
+        bankplan_balance(
+            sheet.as_ptr(),
+            sheet.len(),
+            moves.as_mut_ptr(),
+            moves.len(),
+            written.as_mut_ptr(),
+            written.len(),
+        )
+    }
+}
+
+/// The same with settling. This is the proved code.
+pub fn settle(sheet: &[u8], moves: &mut [Move], written: &mut [u8]) -> Settled {
+    // SAFETY: as for balancing.
+    unsafe {
+        bankplan_settle(
+            sheet.as_ptr(),
+            sheet.len(),
+            moves.as_mut_ptr(),
+            moves.len(),
+            written.as_mut_ptr(),
+            written.len(),
+        )
+    }
 }
 
 /// The second planner's answer in the same form.

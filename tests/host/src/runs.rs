@@ -48,7 +48,7 @@ pub fn bad_journal(line: usize) -> [Due; 2] {
 /// Makes calls and watches the memory that it lends.
 pub struct Judge<R> {
     runner: R,
-    lent: Lent,
+    lent: Lent<u8>,
 }
 
 /// The buffers that a call is made with.
@@ -208,32 +208,81 @@ pub struct Arguments {
     /// digits.
     pub greatest: usize,
     pub six_digits: usize,
-    /// The most calls of a journal, and the most bytes of its answers.
+    pub entries: Entries,
+    /// The most calls of a journal, and the most bytes of its answers and of one
+    /// of them.
     pub most_calls: usize,
     pub most_bytes: usize,
+    pub most_line: usize,
+}
+
+/// Lists lent for records, beside the batches that there are.
+#[derive(Clone, Debug, Default)]
+pub struct Entries {
+    /// Without an entry where there is a batch, and where there is none.
+    pub none: usize,
+    pub none_due: usize,
+    /// One entry less than there are batches, as many, and one more.
+    pub one_less: usize,
+    pub exact: usize,
+    pub one_more: usize,
+    /// As many as a field can say.
+    pub greatest: usize,
+}
+
+impl Entries {
+    fn list(&mut self, entries: u64, batches: usize) {
+        let batches = batches as u64;
+        self.none += (entries == 0 && batches > 0) as usize;
+        self.none_due += (entries == 0 && batches == 0) as usize;
+        self.one_less += (entries + 1 == batches) as usize;
+        self.exact += (entries == batches) as usize;
+        self.one_more += (entries == batches + 1) as usize;
+        self.greatest += (entries == GREATEST) as usize;
+    }
+
+    fn add(&mut self, other: &Entries) {
+        self.none += other.none;
+        self.none_due += other.none_due;
+        self.one_less += other.one_less;
+        self.exact += other.exact;
+        self.one_more += other.one_more;
+        self.greatest += other.greatest;
+    }
 }
 
 impl Arguments {
-    fn calls(&mut self, calls: &[Call], instruments: u32, bytes: usize) {
-        for call in calls {
-            let numbers = numbers(call);
-            self.greatest += numbers.contains(&GREATEST) as usize;
-            self.six_digits += numbers.iter().any(|&x| x >= 100_000) as usize;
-            if let Call::Add { list, .. } | Call::Requalify { list, .. } = call {
+    /// A call on this sheet.
+    fn call(&mut self, call: &Call, sheet: &Sheet) {
+        let numbers = numbers(call);
+        self.greatest += numbers.contains(&GREATEST) as usize;
+        self.six_digits += numbers.iter().any(|&x| x >= 100_000) as usize;
+        match call {
+            Call::Add { list, .. } | Call::Requalify { list, .. } => {
                 let different: BTreeSet<&u64> = list.iter().collect();
                 self.empty += list.is_empty() as usize;
                 self.repeated += (different.len() < list.len()) as usize;
                 self.above_24 += (list.len() > 24) as usize;
                 self.of_25 += (list.len() == 25) as usize;
                 self.above_25 += (list.len() > 25) as usize;
-                if list.len() > 24 && instruments == 24 {
+                if list.len() > 24 && sheet.instruments() == 24 {
                     let front: BTreeSet<u64> = list[..24].iter().copied().collect();
                     self.all_and_more += front.into_iter().eq(1..=24) as usize;
                 }
             }
+            Call::Balance { entries } | Call::Settle { entries } => {
+                self.entries.list(*entries, sheet.batches().len());
+            }
+            _ => {}
         }
-        self.most_calls = self.most_calls.max(calls.len());
-        self.most_bytes = self.most_bytes.max(bytes);
+    }
+
+    /// A whole journal's answers.
+    fn answers(&mut self, text: &[u8]) {
+        let lines = text.split_inclusive(|&b| b == b'\n').map(<[u8]>::len);
+        self.most_calls = self.most_calls.max(lines.clone().count());
+        self.most_line = self.most_line.max(lines.max().unwrap_or(0));
+        self.most_bytes = self.most_bytes.max(text.len());
     }
 
     fn add(&mut self, other: &Arguments) {
@@ -245,8 +294,10 @@ impl Arguments {
         self.all_and_more += other.all_and_more;
         self.greatest += other.greatest;
         self.six_digits += other.six_digits;
+        self.entries.add(&other.entries);
         self.most_calls = self.most_calls.max(other.most_calls);
         self.most_bytes = self.most_bytes.max(other.most_bytes);
+        self.most_line = self.most_line.max(other.most_line);
     }
 }
 
@@ -348,14 +399,14 @@ pub fn compare(shares: u64, make: impl Fn(u64) -> Vec<Case> + Sync) -> Met {
             let mut sheet = second::read(&case.sheet).expect("a sheet without a fault");
             let mut text = Vec::new();
             for call in &case.calls {
+                met.arguments.call(call, &sheet);
                 let answer = second::apply(&mut sheet, call);
                 met.seen.answer(call, &answer, sheet.instruments());
                 put_answer(&mut text, &answer);
             }
             let journal = journal(&case.calls);
             assert_eq!(read(&journal).as_ref(), Ok(&case.calls), "the form itself");
-            met.arguments
-                .calls(&case.calls, sheet.instruments(), text.len());
+            met.arguments.answers(&text);
             let written = second::write(&sheet);
             met.left.sheet(&case.sheet, &sheet, &written);
             let spare = 1 + k % 99;

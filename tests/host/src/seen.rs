@@ -1,7 +1,7 @@
 //! What the second planner's answers were, so that a test can tell what it
 //! covered.
 
-use second::{Answer, Call, Plan, Review, Trial, Verdict};
+use second::{Answer, Balanced, Call, Review, Settled, Trial, Verdict};
 
 use crate::journal::kind;
 
@@ -9,16 +9,20 @@ use crate::journal::kind;
 #[derive(Clone, Debug, Default)]
 pub struct Seen {
     /// By kind of call and by refusal number, 0 for none.
-    pub calls: [[usize; 10]; 8],
+    pub calls: [[usize; 10]; 9],
     /// Reviews of sheets on which some batch gains, and on which none does.
     pub gaining: usize,
     pub settled: usize,
     pub trials: Trials,
-    /// Plannings with a group and without one, and those that settling moved
-    /// batches in.
+    /// Balancings with a group and without one, and those that moved a batch.
     pub grouped: usize,
     pub ungrouped: usize,
+    pub shifted: usize,
+    /// Settlings that moved a batch, and those with more moves than records.
     pub moved: usize,
+    pub repeated: usize,
+    /// The most records of one answer.
+    pub most_records: usize,
 }
 
 /// What trials came to.
@@ -61,7 +65,8 @@ impl Seen {
             Answer::Refused(refusal) => refused = refusal.number(),
             Answer::Review(review) => self.review(review),
             Answer::Trial(trial) => self.trial(trial, m as usize),
-            Answer::Plan(plan) => self.plan(plan),
+            Answer::Balance(balanced) => self.balance(balanced),
+            Answer::Settle(settled) => self.settle(settled),
         }
         self.calls[kind(call) as usize][refused as usize] += 1;
     }
@@ -73,12 +78,21 @@ impl Seen {
         }
     }
 
-    fn plan(&mut self, plan: &Plan) {
-        match plan.group {
+    fn balance(&mut self, balanced: &Balanced) {
+        match balanced.group {
             Some(_) => self.grouped += 1,
             None => self.ungrouped += 1,
         }
-        self.moved += (plan.moves > 0) as usize;
+        let records = balanced.records.len();
+        self.shifted += (records > 0) as usize;
+        self.most_records = self.most_records.max(records);
+    }
+
+    fn settle(&mut self, settled: &Settled) {
+        let records = settled.records.len();
+        self.moved += (records > 0) as usize;
+        self.repeated += (settled.moves > records as u64) as usize;
+        self.most_records = self.most_records.max(records);
     }
 
     fn trial(&mut self, trial: &Trial, m: usize) {
@@ -113,6 +127,9 @@ impl Seen {
         self.trials.add(&other.trials);
         self.grouped += other.grouped;
         self.ungrouped += other.ungrouped;
+        self.shifted += other.shifted;
         self.moved += other.moved;
+        self.repeated += other.repeated;
+        self.most_records = self.most_records.max(other.most_records);
     }
 }

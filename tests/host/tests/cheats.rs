@@ -1,9 +1,9 @@
 //! Calls with a journal that are right but for one thing, and must be caught.
 
-use host::journal::read;
+use host::journal::{journal as lines, put_answer, read};
 use host::runs::{dues, Calls, Judge, Rooms, Runner, BAD_JOURNAL, BOTH};
 use host::{run, write, Hosted, SHEET};
-use second::{gen, Answer, Call, Draft};
+use second::{gen, Answer, Call, Draft, Move, Sheet};
 
 /// What it does wrong with the call that it is given.
 type Cheat = (&'static str, fn(Runner, &[u8], &[u8], &mut [u8]) -> Hosted);
@@ -15,7 +15,7 @@ const SHORT: Hosted = Hosted {
 };
 
 /// Wrong for either call.
-const EITHER: [Cheat; 23] = [
+const EITHER: [Cheat; 27] = [
     ("writes past the text", |call, sheet, journal, text| {
         let made = call(sheet, journal, text);
         if let Some(next) = text.get_mut(made.length) {
@@ -207,9 +207,218 @@ const EITHER: [Cheat; 23] = [
         }
         made
     }),
+    (
+        "takes any list for the records",
+        |call, sheet, journal, text| {
+            let journal = with_entries(sheet, journal, |_, _| 200);
+            call(sheet, &journal, text)
+        },
+    ),
+    (
+        "wants an entry for each record alone",
+        |call, sheet, journal, text| {
+            let journal = with_entries(sheet, journal, |entries, records| {
+                200 * (entries >= records) as u64
+            });
+            call(sheet, &journal, text)
+        },
+    ),
+    ("wants an entry more", |call, sheet, journal, text| {
+        let journal = with_entries(sheet, journal, |entries, _| entries.saturating_sub(1));
+        call(sheet, &journal, text)
+    }),
+    (
+        "takes a line without its entries",
+        |call, sheet, journal, text| {
+            let mut whole = Vec::new();
+            for line in journal.split_inclusive(|&b| b == b'\n') {
+                whole.extend(match line {
+                    b"     7\n" => b"     7   200\n",
+                    b"     8\n" => b"     8   200\n",
+                    line => line,
+                });
+            }
+            call(sheet, &whole, text)
+        },
+    ),
 ];
 
-const ANSWERS: [Cheat; 2] = [
+/// The journal, if it is of the form, with other lists: `other` says how many
+/// entries there are, given how many there were and how many records.
+fn with_entries(sheet: &[u8], journal: &[u8], other: impl Fn(u64, u64) -> u64) -> Vec<u8> {
+    let (Ok(mut sheet), Ok(mut calls)) = (second::read(sheet), read(journal)) else {
+        return journal.to_vec();
+    };
+    for call in &mut calls {
+        match call {
+            Call::Balance { entries } => {
+                let made = second::balance(&mut sheet.clone(), 200).expect("entries enough");
+                *entries = other(*entries, made.records.len() as u64);
+            }
+            Call::Settle { entries } => {
+                let made = second::settle(&mut sheet.clone(), 200).expect("entries enough");
+                *entries = other(*entries, made.records.len() as u64);
+            }
+            _ => {}
+        }
+        second::apply(&mut sheet, call);
+    }
+    lines(&calls)
+}
+
+/// The second planner's answers, each changed; `change` also gets the sheet that
+/// the call left.
+fn answering(
+    sheet: &[u8],
+    journal: &[u8],
+    text: &mut [u8],
+    mut change: impl FnMut(&Sheet, &mut Answer),
+) -> Hosted {
+    let (Ok(mut on), Ok(calls)) = (second::read(sheet), read(journal)) else {
+        return run(sheet, journal, text);
+    };
+    let mut answers = Vec::new();
+    for call in &calls {
+        let mut answer = second::apply(&mut on, call);
+        change(&on, &mut answer);
+        put_answer(&mut answers, &answer);
+    }
+    let Some(front) = text.get_mut(..answers.len()) else {
+        return SHORT;
+    };
+    front.copy_from_slice(&answers);
+    Hosted {
+        refusal: 0,
+        line: 0,
+        length: answers.len(),
+    }
+}
+
+/// Those answers with their records changed.
+fn recording(
+    sheet: &[u8],
+    journal: &[u8],
+    text: &mut [u8],
+    change: impl Fn(&mut Vec<Move>),
+) -> Hosted {
+    answering(sheet, journal, text, |_, answer| match answer {
+        Answer::Balance(balanced) => change(&mut balanced.records),
+        Answer::Settle(settled) => change(&mut settled.records),
+        _ => {}
+    })
+}
+
+const ANSWERS: [Cheat; 14] = [
+    ("leaves out the last record", |_, sheet, journal, text| {
+        recording(sheet, journal, text, |records| {
+            records.pop();
+        })
+    }),
+    ("leaves out the records", |_, sheet, journal, text| {
+        recording(sheet, journal, text, Vec::clear)
+    }),
+    ("gives records descending", |_, sheet, journal, text| {
+        recording(sheet, journal, text, |records| records.reverse())
+    }),
+    ("gives the new place first", |_, sheet, journal, text| {
+        recording(sheet, journal, text, |records| {
+            for record in records {
+                (record.from, record.to) = (record.to, record.from);
+            }
+        })
+    }),
+    (
+        "gives records of batches from 0",
+        |_, sheet, journal, text| {
+            recording(sheet, journal, text, |records| {
+                for record in records {
+                    record.batch -= 1;
+                }
+            })
+        },
+    ),
+    ("counts records as moves", |_, sheet, journal, text| {
+        answering(sheet, journal, text, |_, answer| {
+            if let Answer::Settle(settled) = answer {
+                settled.moves = settled.records.len() as u64;
+            }
+        })
+    }),
+    ("balances to a settled finish", |_, sheet, journal, text| {
+        answering(sheet, journal, text, |after, answer| {
+            if let Answer::Balance(balanced) = answer {
+                balanced.finish = second::settle(&mut after.clone(), 200).unwrap().finish;
+            }
+        })
+    }),
+    (
+        "keeps the standing plan with a small floor",
+        |_, sheet, journal, text| {
+            // Where balance is the first call.
+            let mut first = second::read(sheet).ok();
+            answering(sheet, journal, text, |after, answer| {
+                if let (Answer::Balance(balanced), Some(standing)) = (answer, first.take()) {
+                    balanced.finish = standing.finish();
+                    balanced.floor = after.longest();
+                    balanced.group = None;
+                    balanced.level = standing.finish();
+                    (balanced.raises, balanced.bumps) = (0, 0);
+                    balanced.records.clear();
+                }
+            })
+        },
+    ),
+    ("gives a floor by the longest", |_, sheet, journal, text| {
+        answering(sheet, journal, text, |after, answer| {
+            if let Answer::Balance(balanced) = answer {
+                balanced.floor = after.longest();
+            }
+        })
+    }),
+    ("gives no group", |_, sheet, journal, text| {
+        answering(sheet, journal, text, |_, answer| {
+            if let Answer::Balance(balanced) = answer {
+                balanced.group = None;
+            }
+        })
+    }),
+    ("gives bumps for raises", |_, sheet, journal, text| {
+        answering(sheet, journal, text, |_, answer| {
+            if let Answer::Balance(balanced) = answer {
+                balanced.raises = balanced.bumps;
+            }
+        })
+    }),
+    (
+        "gives the moves in six columns",
+        |call, sheet, journal, text| {
+            let Ok(calls) = read(journal) else {
+                return call(sheet, journal, text);
+            };
+            let mut all = vec![0; 10_000];
+            let made = call(sheet, journal, &mut all);
+            let mut narrow = Vec::new();
+            for (line, call) in all[..made.length]
+                .split_inclusive(|&b| b == b'\n')
+                .zip(calls)
+            {
+                match call {
+                    Call::Settle { .. } if line.len() > 24 => {
+                        narrow.extend([&line[..12], &line[18..]].concat());
+                    }
+                    _ => narrow.extend(line),
+                }
+            }
+            let Some(front) = text.get_mut(..narrow.len()) else {
+                return if made.refusal == 0 { SHORT } else { made };
+            };
+            front.copy_from_slice(&narrow);
+            Hosted {
+                length: narrow.len(),
+                ..made
+            }
+        },
+    ),
     (
         "makes each call on the first sheet",
         |call, sheet, journal, text| {
@@ -250,7 +459,28 @@ fn without(sheet: &[u8], journal: &[u8], mut made: impl FnMut(&Call, &Answer) ->
     kept.flat_map(|(line, _)| line.to_vec()).collect()
 }
 
-const WRITTEN: [Cheat; 17] = [
+/// The journal with a line put before or after each of the calls that are meant.
+fn beside(journal: &[u8], meant: fn(&Call) -> bool, before: &[u8], after: &[u8]) -> Vec<u8> {
+    let Ok(calls) = read(journal) else {
+        return journal.to_vec();
+    };
+    let lines = journal.split_inclusive(|&b| b == b'\n').zip(&calls);
+    let with = lines.flat_map(|(line, call)| match meant(call) {
+        true => [before, line, after].concat(),
+        false => line.to_vec(),
+    });
+    with.collect()
+}
+
+fn balances(call: &Call) -> bool {
+    matches!(call, Call::Balance { .. })
+}
+
+fn settles(call: &Call) -> bool {
+    matches!(call, Call::Settle { .. })
+}
+
+const WRITTEN: [Cheat; 20] = [
     ("writes the answers", |_, sheet, journal, text| {
         run(sheet, journal, text)
     }),
@@ -361,22 +591,34 @@ const WRITTEN: [Cheat; 17] = [
             _ => made,
         }
     }),
-    ("enters no plan", |call, sheet, journal, text| {
-        let journal = without(sheet, journal, |call, _| *call != Call::Plan);
+    ("enters no balance", |call, sheet, journal, text| {
+        let journal = without(sheet, journal, |call, _| !balances(call));
+        call(sheet, &journal, text)
+    }),
+    ("enters no settling", |call, sheet, journal, text| {
+        let journal = without(sheet, journal, |call, _| !settles(call));
+        call(sheet, &journal, text)
+    }),
+    ("settles after a balance", |call, sheet, journal, text| {
+        let journal = beside(journal, balances, b"", b"     8   200\n");
+        call(sheet, &journal, text)
+    }),
+    ("balances before settling", |call, sheet, journal, text| {
+        let journal = beside(journal, settles, b"     7   200\n", b"");
         call(sheet, &journal, text)
     }),
     ("enters no edit", |call, sheet, journal, text| {
         let journal = without(sheet, journal, |_, answer| *answer != Answer::Done);
         call(sheet, &journal, text)
     }),
-    ("enters a trial as a plan", |call, sheet, journal, text| {
-        let calls = read(journal).unwrap_or_default();
-        let trial = |call: &Call| matches!(call, Call::Trial { .. });
-        match calls.iter().any(trial) {
-            true => call(sheet, &[journal, b"     7\n"].concat(), text),
-            false => call(sheet, journal, text),
-        }
-    }),
+    (
+        "enters a trial as a balance",
+        |call, sheet, journal, text| {
+            let trial = |call: &Call| matches!(call, Call::Trial { .. });
+            let journal = beside(journal, trial, b"", b"     7   200\n");
+            call(sheet, &journal, text)
+        },
+    ),
     (
         "ends the run at a refused call",
         |call, sheet, journal, text| {
@@ -413,16 +655,37 @@ fn verdict(which: usize, call: impl Fn(&[u8], &[u8], &mut [u8]) -> Hosted) -> Re
     20           3     2     1     3
     10     1     2     3     1
 ";
-    let sheets = [SHEET, open, &SHEET.replace("    20", "  1441")];
+    // Balance leaves it, settle does not.
+    let unsettled = "     2     4
+     2     2     1     2
+     4     1     2     2     1
+     5     1     2     2     1
+     2     2     2     1     2
+";
+    // Settling moves a batch away and back.
+    let returning = "     3     4
+     1     3     1     3
+     4     3     2     2     3
+     2     2     1     2
+     2     3     2     1     3
+";
+    // Balance makes more bumps than raises.
+    let bumps = "     2     2\n    30     0     1     1\n    20     0     2     1     2\n";
+    let bad = SHEET.replace("    20", "  1441");
+    let sheets = [SHEET, open, unsettled, returning, bumps, &bad];
     let edits = "     4     1     2\n     2     9\n     3     3     2     2     1\n     2     2\n";
     let journals = [
         String::new(),
-        "     5\n     4     1     2\n     5\n     7\n".into(),
+        "     5\n     4     1     2\n     5\n     7     4\n     8     4\n".into(),
         edits.into(),
         format!("{edits}     1    15     1     1\n     1    15     2     2     1\n"),
         "     4     1     2\n     6     0\n     5\n".into(),
-        format!("{edits}     7"),
-        format!("{edits}     8\n{edits}"),
+        "     7     3\n     5\n".into(),
+        "     8     4\n     5\n".into(),
+        "     8     2\n     7     2\n     8     1\n".into(),
+        format!("{edits}     7     9"),
+        format!("{edits}     8     9\n     7\n{edits}"),
+        format!("{edits}     9\n{edits}"),
         format!("{edits}     6      \n"),
     ];
     let mut judge = Judge::new(call);

@@ -1,8 +1,9 @@
-//! What a listing promises, checked on its own numbers: by going through all
-//! plans of small sheets, and without the second planner.
+//! What balance, settle and a listing promise, checked on their own numbers: by
+//! going through all plans of small sheets, and without the second planner.
 
+use host::filed::{made, Made};
 use host::listing::{Listing, MOST};
-use host::plan;
+use host::{balance, plan, settle, Balanced, Settled};
 use second::gen::{self, Shape};
 use second::rng::Rng;
 use second::Draft;
@@ -28,22 +29,35 @@ fn optimum(draft: &Draft, placed: usize, loads: &mut [u32; 25]) -> u32 {
     least
 }
 
+/// Where a batch stands, by its index.
+fn place(draft: &Draft, i: usize) -> u32 {
+    let line = &draft.lines[i];
+    line.given().unwrap_or(line.list[0])
+}
+
 /// Loads by instrument number.
-fn loads(draft: &Draft, place: impl Fn(usize) -> u32) -> [u32; 25] {
+fn loads(draft: &Draft) -> [u32; 25] {
     let mut loads = [0; 25];
     for (i, line) in draft.lines.iter().enumerate() {
-        loads[place(i) as usize] += line.length;
+        loads[place(draft, i) as usize] += line.length;
     }
     loads
 }
 
 /// The finish of the plan that the sheet has.
 fn standing(draft: &Draft) -> u32 {
-    let loads = loads(draft, |i| {
-        let line = &draft.lines[i];
-        line.given().unwrap_or(line.list[0])
-    });
-    *loads.iter().max().unwrap()
+    *loads(draft).iter().max().unwrap()
+}
+
+/// Does some batch gain?
+fn gains(draft: &Draft) -> bool {
+    let loads = loads(draft);
+    let mut batches = draft.lines.iter().enumerate();
+    batches.any(|(i, line)| {
+        let here = place(draft, i);
+        let mut others = line.list.iter().filter(|&&j| j != here);
+        others.any(|&j| loads[j as usize] + line.length < loads[here as usize])
+    })
 }
 
 fn longest(draft: &Draft) -> u32 {
@@ -62,57 +76,112 @@ fn divisor(draft: &Draft) -> u32 {
     })
 }
 
-/// What holds of any listing, small or not.
-fn laws(draft: &Draft, listing: &Listing) {
-    assert_eq!(listing.batches.len(), draft.lines.len());
-    for (i, (line, batch)) in draft.lines.iter().zip(&listing.batches).enumerate() {
-        assert_eq!((batch[0], batch[2]), (i as u32 + 1, line.length));
-        assert!(line.list.contains(&batch[1]), "a permitted plan");
+/// The sheet that the records lead to, which is the one written.
+fn led<A>(draft: &Draft, made: &Made<A>) -> Draft {
+    let mut left = draft.clone();
+    for i in 0..left.lines.len() {
+        left.lines[i].place = Some(place(draft, i));
     }
-    let now = loads(draft, |i| listing.batches[i][1]);
-    assert_eq!(Some(&listing.finish), now.iter().max());
-    assert!(listing.finish <= standing(draft));
-    for (line, batch) in draft.lines.iter().zip(&listing.batches) {
-        let here = now[batch[1] as usize];
-        let mut others = line.list.iter().filter(|&&j| j != batch[1]);
-        let gains = others.any(|&j| now[j as usize] + line.length < here);
-        assert!(!gains, "batch {} gains", batch[0]);
+    assert!(made.records.is_sorted_by(|a, b| a.batch < b.batch));
+    for record in &made.records {
+        let line = &mut left.lines[record.batch as usize - 1];
+        assert_eq!(line.place, Some(record.from));
+        assert_ne!(record.from, record.to);
+        assert!(line.list.contains(&record.to), "a permitted plan");
+        line.place = Some(record.to);
     }
-
-    let longest = longest(draft);
-    let inside = |list: &[u32]| list.iter().all(|j| listing.group.contains(j));
-    let confined = draft.lines.iter().filter(|line| inside(&line.list));
-    let minutes: u32 = confined.map(|line| line.length).sum();
-    let size = listing.group.len() as u32;
-    match size {
-        0 => assert_eq!((listing.floor, listing.level), (longest, 0)),
-        _ => assert_eq!(listing.floor, longest.max(minutes.div_ceil(size))),
-    }
-    if !draft.lines.is_empty() {
-        assert!(listing.finish < listing.floor + longest);
-    }
+    assert_eq!(left.render(), made.written, "{draft:?}");
+    left
 }
 
-/// A listing of a sheet with few plans against all of them, and the earliest
-/// finish of any.
-fn compared(draft: &Draft) -> (Listing, u32) {
-    let listing = listing(draft);
-    laws(draft, &listing);
-    let optimum = optimum(draft, 0, &mut [0; 25]);
-    assert!(listing.floor <= optimum && optimum <= listing.finish);
-    if !draft.lines.is_empty() {
-        // Above the best by at most the longest less g, for every g of which
-        // all lengths are multiples: so for the greatest one.
-        let latest = optimum + longest(draft) - divisor(draft);
-        assert!(listing.finish <= latest, "{draft:?}");
+/// What holds of any balance, small or not; gives the sheet that is left.
+fn balance_laws(draft: &Draft) -> (Balanced, Draft) {
+    let made = made(&draft.render(), balance);
+    let after = led(draft, &made);
+    let answer = made.answer;
+    assert_eq!(answer.finish, standing(&after));
+    assert!(answer.finish <= standing(draft));
+
+    let longest = longest(draft);
+    let group: Vec<u32> = answer.group.iter().map(|&j| j as u32).collect();
+    let (group, rest) = group.split_at(answer.size);
+    assert!(group.is_sorted_by(|a, b| a < b) && rest.iter().all(|&j| j == 0));
+    assert!(group.iter().all(|j| (1..=draft.instruments).contains(j)));
+    let inside = |list: &[u32]| list.iter().all(|j| group.contains(j));
+    let confined = draft.lines.iter().filter(|line| inside(&line.list));
+    let minutes: u32 = confined.map(|line| line.length).sum();
+    match group.len() as u32 {
+        0 => assert_eq!((answer.floor, answer.level), (longest, 0)),
+        size => assert_eq!(answer.floor, longest.max(minutes.div_ceil(size))),
     }
-    (listing, optimum)
+    assert!(answer.finish <= answer.level + longest);
+    if !draft.lines.is_empty() {
+        assert!(answer.finish < answer.floor + longest);
+    }
+    (answer, after)
+}
+
+/// What holds of any settling; gives the sheet that is left.
+fn settle_laws(draft: &Draft) -> (Settled, Draft) {
+    let made = made(&draft.render(), settle);
+    let after = led(draft, &made);
+    let answer = made.answer;
+    assert_eq!(answer.finish, standing(&after));
+    assert!(answer.finish <= standing(draft));
+    assert!(!gains(&after), "settled");
+    assert_eq!(answer.moves > 0, gains(draft));
+    assert!(answer.moves >= made.records.len() as u64);
+    (answer, after)
+}
+
+/// Balance and settle one after the other; a listing has what they have.
+fn plan_laws(draft: &Draft) -> (Balanced, Settled) {
+    let (balanced, middle) = balance_laws(draft);
+    let (settled, after) = settle_laws(&middle);
+    let batches = after.lines.iter().enumerate();
+    let line = |(i, line): (usize, &second::Line)| [i as u32 + 1, place(&after, i), line.length];
+    let both = Listing {
+        finish: settled.finish,
+        floor: balanced.floor,
+        level: balanced.level,
+        raises: balanced.raises,
+        bumps: balanced.bumps,
+        moves: settled.moves,
+        group: balanced.group[..balanced.size]
+            .iter()
+            .map(|&j| j as u32)
+            .collect(),
+        batches: batches.map(line).collect(),
+    };
+    assert_eq!(listing(draft), both);
+    (balanced, settled)
+}
+
+/// A sheet with few plans against all of them, balanced as it is and once more
+/// after settling; gives what planning comes to and the earliest finish of any.
+fn compared(draft: &Draft) -> (Balanced, Settled, u32) {
+    let (balanced, settled) = plan_laws(draft);
+    let (_, rested) = settle_laws(draft);
+    let (later, _) = balance_laws(&rested);
+    let optimum = optimum(draft, 0, &mut [0; 25]);
+    assert!(optimum <= settled.finish && settled.finish <= balanced.finish);
+    for answer in [balanced, later] {
+        assert!(answer.floor <= optimum && optimum <= answer.finish);
+        if !draft.lines.is_empty() {
+            // Above the best by at most the longest less g, for every g of
+            // which all lengths are multiples: so for the greatest one.
+            let latest = optimum + longest(draft) - divisor(draft);
+            assert!(answer.finish <= latest, "{draft:?}");
+        }
+    }
+    (balanced, settled, optimum)
 }
 
 #[test]
 fn small_sheets() {
     let mut rng = Rng::new(51);
     let (mut best, mut later, mut tight, mut loose, mut empty) = (0, 0, 0, 0, 0);
+    let mut settling = 0;
     for round in 0..20_000 {
         let shape = Shape {
             instruments: (1, 4),
@@ -120,35 +189,37 @@ fn small_sheets() {
             lengths: [(1, 9), (1, 60), (1, 1440)][round % 3],
         };
         let draft = gen::draft(&mut rng, shape);
-        let (listing, optimum) = compared(&draft);
+        let (balanced, settled, optimum) = compared(&draft);
         if draft.lines.is_empty() {
-            assert_eq!((listing.finish, listing.floor), (0, 0));
+            assert_eq!((balanced.finish, balanced.floor), (0, 0));
             empty += 1;
             continue;
         }
-        match listing.finish == optimum {
+        match balanced.finish == optimum {
             true => best += 1,
             false => later += 1,
         }
-        match listing.floor == optimum {
+        match balanced.floor == optimum {
             true => tight += 1,
             false => loose += 1,
         }
+        settling += (settled.finish < balanced.finish) as usize;
     }
     println!(
-        "finish: {best} best, {later} later; floor: {tight} tight, {loose} not; {empty} empty"
+        "finish: {best} best, {later} later, {settling} earlier by settling; floor: {tight} \
+         tight, {loose} not; {empty} empty"
     );
-    let counts = [best, later, tight, loose, empty];
+    let counts = [best, later, settling, tight, loose, empty];
     assert!(counts.into_iter().all(|count| count >= 200), "{counts:?}");
 }
 
-/// Lengths that are multiples of one number: how often a plan is as late as the
-/// bound for that number allows.
+/// Lengths that are multiples of one number: how often balance is as late as the
+/// bound for that number allows, and settling leaves it so.
 #[test]
 fn round_lengths() {
     let mut rng = Rng::new(53);
     for step in [2, 3, 5, 15] {
-        let (mut reached, mut earlier) = (0, 0);
+        let (mut reached, mut kept, mut earlier) = (0, 0, 0);
         for round in 0..10_000 {
             let shape = Shape {
                 instruments: (2, 4),
@@ -157,16 +228,22 @@ fn round_lengths() {
             };
             let mut draft = gen::draft(&mut rng, shape);
             draft.lines.iter_mut().for_each(|line| line.length *= step);
-            let (listing, optimum) = compared(&draft);
+            let (balanced, settled, optimum) = compared(&draft);
             match longest(&draft) - step {
                 // Equal lengths, which have a test of their own.
                 0 => (),
-                most if listing.finish == optimum + most => reached += 1,
+                most if balanced.finish == optimum + most => {
+                    reached += 1;
+                    kept += (settled.finish == balanced.finish) as usize;
+                }
                 _ => earlier += 1,
             }
         }
-        println!("multiples of {step}: the bound reached {reached} times, not {earlier} times");
-        assert!(reached >= 50 && earlier >= 1_000);
+        println!(
+            "multiples of {step}: the bound reached {reached} times, {kept} after settling too, \
+             not {earlier} times"
+        );
+        assert!(reached >= 50 && kept >= 50 && earlier >= 1_000);
     }
 }
 
@@ -183,9 +260,9 @@ fn equal_lengths() {
             lengths: (length, length),
         };
         let draft = gen::draft(&mut rng, shape);
-        let (listing, optimum) = compared(&draft);
-        assert_eq!(listing.finish, optimum, "{draft:?}");
-        below += (listing.floor < optimum) as usize;
+        let (balanced, settled, optimum) = compared(&draft);
+        assert_eq!((balanced.finish, settled.finish), (optimum, optimum));
+        below += (balanced.floor < optimum) as usize;
         improved += (optimum < standing(&draft)) as usize;
     }
     println!("equal lengths: all best, {improved} improved, {below} with a floor below");
@@ -195,15 +272,16 @@ fn equal_lengths() {
 #[test]
 fn larger_sheets() {
     let mut rng = Rng::new(52);
-    let (mut grouped, mut moved) = (0, 0);
-    for _ in 0..3_000 {
+    let (mut grouped, mut moved, mut alone) = (0, 0, 0);
+    for _ in 0..1_500 {
         let shape = *rng.pick(&[gen::MEDIUM, gen::FULL, gen::LARGE]);
         let draft = gen::draft(&mut rng, shape);
-        let listing = listing(&draft);
-        laws(&draft, &listing);
-        grouped += !listing.group.is_empty() as usize;
-        moved += (listing.moves > 0) as usize;
+        let (balanced, settled) = plan_laws(&draft);
+        let (rested, _) = settle_laws(&draft);
+        grouped += (balanced.size > 0) as usize;
+        moved += (settled.moves > 0) as usize;
+        alone += (rested.moves > 0) as usize;
     }
-    println!("{grouped} with a group, {moved} with settling moves");
-    assert!(grouped >= 500 && moved >= 100);
+    println!("{grouped} with a group, {moved} with settling moves, {alone} if settled alone");
+    assert!(grouped >= 500 && moved >= 100 && alone >= 500);
 }

@@ -131,8 +131,8 @@ fn refusals() {
     for (k, case) in cases::faulty(24, 300).into_iter().enumerate() {
         let journal: &[u8] = match k % 3 {
             0 => b"",
-            1 => b"     7\n     5\n",
-            _ => b"     7\n     5",
+            1 => b"     7   200\n     8     0\n     5\n",
+            _ => b"     7   200\n     5",
         };
         for sheet in [&case.sheet, SHEET.as_bytes()] {
             compare(&folder, sheet, journal);
@@ -188,11 +188,13 @@ fn limits() {
     assert_eq!(wrote[0], sheet);
     // The largest sheet, and bytes left over after it.
     let mut largest = cases::largest(44, 1).remove(0).sheet;
-    let [_, wrote] = compare(&folder, &largest, b"     7\n");
+    let journal = b"     7   200\n     8   200\n     7   199\n";
+    let [ran, wrote] = compare(&folder, &largest, journal);
+    assert!(ran[0].ends_with(b"\n     9\n"));
     assert_eq!(wrote[0].len(), LARGEST_SHEET);
     for more in [1, 2, 100_000] {
         largest.resize(LARGEST_SHEET + more, b'\n');
-        refused(compare(&folder, &largest, b"     7\n"), b"     1   202\n");
+        refused(compare(&folder, &largest, journal), b"     1   202\n");
     }
 }
 

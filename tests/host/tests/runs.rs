@@ -9,7 +9,7 @@ use host::journal::{journal, kind, read, GREATEST};
 use host::runs::{
     bad_journal, compare, compare_bytes, Judges, Met, Rooms, BAD_JOURNAL, BOTH, LEAST,
 };
-use host::{run, text, SHEET};
+use host::{run, text, LONGEST_ANSWER, SHEET};
 use second::rng::Rng;
 use second::{gen, Call, Draft};
 
@@ -31,11 +31,27 @@ fn known_answers() {
         ("     4     2     2", "     5"),
         ("     4     4     2", "     6"),
         ("     4     3     1", "     0"),
+        ("     7     2", "     9"),
+        ("     8     2", "     9"),
+        ("     8     0", "     9"),
+        ("     5", "     0    60     1    60     0"),
         (
-            "     7",
-            "     0    30    30     0     2     2           0     0",
+            "     7     3",
+            "     0    30    30     0     2     2     0     1     1     1     2",
         ),
+        ("     8     3", "     0    30           0     0"),
         ("     5", "     0    30     0    30    30"),
+        // Settling alone, with lists of more entries than there are batches.
+        ("     4     1     1", "     0"),
+        (
+            "     8     4",
+            "     0    30           1     1     1     1     2",
+        ),
+        ("     8999999", "     0    30           0     0"),
+        (
+            "     7999999",
+            "     0    30    30     0     0     0     0     0",
+        ),
         ("     1    40     1     1", "     0"),
         ("     1    40     0", "     4"),
         ("     1    40     2     1     1", "     4"),
@@ -56,13 +72,65 @@ fn known_answers() {
     10     0     1     1
     10     1     1     1
 ";
-    let plan = "     0    30    30    20     0     0           0     1     1\n";
-    assert_eq!(answer(group, "     7\n").unwrap(), plan);
+    let plan = "     7     3\n     8     3\n";
+    let answers = "     0    30    30    20     0     0     1     1     0
+     0    30           0     0
+";
+    assert_eq!(answer(group, plan).unwrap(), answers);
     let blank = group.replace("10     0", "10      ");
-    assert_eq!(answer(&blank, "     7\n").unwrap(), plan);
+    assert_eq!(answer(&blank, plan).unwrap(), answers);
     let failure = "     0     0     9    12     1\n";
     assert_eq!(answer(group, "     6    19\n").unwrap(), failure);
     assert_eq!(answer(SHEET, "").unwrap(), "");
+    // Without a batch no entry is needed.
+    let answers = "     0     0     0     0     0     0     0     0
+     0     0           0     0
+";
+    let empty = answer("     2     0\n", "     7     0\n     8     0\n");
+    assert_eq!(empty.unwrap(), answers);
+    let answers = "     0  1440  1440     0     0     0     0     0
+     0  1440           0     0
+";
+    let longest = "     1     1\n  1440     0     1     1\n";
+    let one = answer(longest, "     7     1\n     8     1\n");
+    assert_eq!(one.unwrap(), answers);
+}
+
+/// Balance ends before settling, whose moves are not the records: there are two
+/// sheets on which settling has work to do.
+#[test]
+fn known_records() {
+    let unsettled = "     2     4
+     2     2     1     2
+     4     1     2     2     1
+     5     1     2     2     1
+     2     2     2     1     2
+";
+    let answers = "     0     9     2     9     4
+     0     9     7     4     0     0     2     1     2     0
+     0     7           2     2     2     1     2     4     2     1
+     0     7     0     7     6
+";
+    let journal = "     5\n     7     4\n     8     4\n     5\n";
+    assert_eq!(answer(unsettled, journal).unwrap(), answers);
+    // Batch 2 leaves and returns.
+    let returning = "     3     4
+     1     3     1     3
+     4     3     2     2     3
+     2     2     1     2
+     2     3     2     1     3
+";
+    let answers = "     0     5           3     1     4     3     1\n";
+    assert_eq!(answer(returning, "     8     4\n").unwrap(), answers);
+    // A balance with a record and a group.
+    let again = "     2     3
+     3     1     2     1     2
+     4     1     1     1
+     2     1     1     1
+";
+    let answers =
+        "     0     6     5     2     2     2     2     1     2     1     1     1     2\n";
+    assert_eq!(answer(again, "     7     3\n").unwrap(), answers);
 }
 
 #[test]
@@ -74,7 +142,15 @@ fn known_refusals() {
         ("\n".into(), 1),
         (" ".into(), 1),
         ("     0\n".into(), 1),
+        ("     9\n".into(), 1),
+        ("     9     3\n".into(), 1),
+        ("     7\n".into(), 1),
         ("     8\n".into(), 1),
+        ("     7     3     3\n".into(), 1),
+        ("     8     3     0\n".into(), 1),
+        ("     7      \n".into(), 1),
+        ("     8    03\n".into(), 1),
+        ("     8    -1\n".into(), 1),
         ("    05\n".into(), 1),
         ("5     \n".into(), 1),
         ("     5\r\n".into(), 1),
@@ -95,7 +171,8 @@ fn known_refusals() {
         ("     1     9           1\n".into(), 1),
         ("     3     1     1      \n".into(), 1),
         (format!("{good}           1\n"), 2),
-        (format!("{good}     7"), 2),
+        (format!("{good}     7     3"), 2),
+        (format!("{good}     8     3\n     7\n"), 3),
         (format!("{good}\n{good}"), 2),
         (format!("{good}     9\n     9\n"), 2),
         (format!("{good}{good}x"), 3),
@@ -137,7 +214,8 @@ fn fitting(rng: &mut Rng, call: &mut Call) {
             fit(instrument);
         }
         Call::Trial { level } => fit(level),
-        Call::Review | Call::Plan => {}
+        Call::Balance { entries } | Call::Settle { entries } => fit(entries),
+        Call::Review => {}
     }
 }
 
@@ -219,8 +297,8 @@ fn random_runs() {
     assert_eq!(met.pairs, 4 + 60 * 100 + 50 * 220 + 40 * 100);
     rooms_of_good_pairs(&met, 2_500);
     let seen = &met.seen;
-    for kind in 1..=7 {
-        assert!(seen.calls[kind][0] >= 9_000, "calls of kind {kind}");
+    for kind in 1..=8 {
+        assert!(seen.calls[kind][0] >= 6_000, "calls of kind {kind}");
     }
     for (kind, refusal) in [
         (1, 3),
@@ -232,13 +310,17 @@ fn random_runs() {
         (4, 5),
         (4, 6),
         (6, 8),
+        (7, 9),
+        (8, 9),
     ] {
         assert!(seen.calls[kind][refusal] >= 2_000, "{refusal} of {kind}");
     }
     assert_eq!(seen.calls[5][0], seen.gaining + seen.settled);
-    assert!(seen.gaining >= 7_000 && seen.settled >= 7_000);
-    assert!(seen.grouped >= 6_000 && seen.ungrouped >= 5_000);
-    assert!(seen.moved >= 2_500);
+    assert!(seen.gaining >= 7_000 && seen.settled >= 6_000);
+    assert_eq!(seen.calls[7][0], seen.grouped + seen.ungrouped);
+    assert!(seen.grouped >= 5_000 && seen.ungrouped >= 4_500);
+    assert!(seen.shifted >= 2_000 && seen.moved >= 2_000);
+    assert!(seen.repeated >= 300 && seen.most_records >= 150);
     let trials = &seen.trials;
     assert_eq!(seen.calls[6][0], trials.passed + trials.failed);
     assert!(trials.passed >= 80_000 && trials.worked >= 30_000);
@@ -251,6 +333,11 @@ fn random_runs() {
     assert!(arguments.above_24 >= 1_000 && arguments.of_25 >= 1_000);
     assert!(arguments.above_25 >= 1_000 && arguments.all_and_more >= 500);
     assert!(arguments.greatest >= 1_000 && arguments.six_digits >= 5_000);
+    assert!((3_000..=LONGEST_ANSWER).contains(&arguments.most_line));
+    let entries = &arguments.entries;
+    assert!(entries.none >= 1_500 && entries.none_due >= 500);
+    assert!(entries.one_less >= 1_500 && entries.exact >= 5_000);
+    assert!(entries.one_more >= 2_500 && entries.greatest >= 1_500);
     let left = &met.left;
     assert!(left.blank >= 150_000, "{} blank places", left.blank);
     assert!(left.changed >= 15_000 && left.kept >= 5_000);
@@ -277,7 +364,7 @@ fn long_runs() {
     rooms_of_good_pairs(&met, 8);
     assert!(met.arguments.most_calls >= 2_000);
     assert!(met.arguments.most_bytes >= 1 << 17);
-    for kind in 1..=7 {
+    for kind in 1..=8 {
         assert!(met.seen.calls[kind][0] >= 1_600, "calls of kind {kind}");
     }
 }
@@ -346,7 +433,8 @@ fn every_byte() {
      4     2     1
      5
      6    24
-     7
+     7     3
+     8     3
      6     0
 ";
     let sheet = SHEET.as_bytes();
@@ -369,7 +457,7 @@ fn every_byte() {
     println!("{}", met.summary());
     assert_eq!(met.pairs, file.len() * 37);
     good_and_bad(&met, 300, 3_000);
-    assert!((1..=9).all(|line| met.lines.contains(&line)));
+    assert!((1..=10).all(|line| met.lines.contains(&line)));
 }
 
 /// Every field of a journal left blank in turn: it is refused at its line, and
@@ -379,7 +467,7 @@ fn every_field_blank() {
     let mut judges = Judges::default();
     let mut rng = Rng::new(33);
     let mut met = Met::default();
-    let mut kinds = [0; 8];
+    let mut kinds = [0; 9];
     for _ in 0..200 {
         let (sheet, calls) = small(&mut rng);
         let file = journal(&calls);
@@ -409,10 +497,10 @@ fn random_bytes() {
             let size = rng.below(60);
             let journal: Vec<u8> = match k % 4 {
                 0 => (0..size).map(|_| rng.next_u64() as u8).collect(),
-                1 => (0..size).map(|_| *rng.pick(b" 1567\n")).collect(),
+                1 => (0..size).map(|_| *rng.pick(b" 15678\n")).collect(),
                 2 => {
                     let fields = [
-                        "     1", "     2", "     5", "     6", "     7", "      ", "\n",
+                        "     1", "     2", "     5", "     6", "     7", "     8", "      ", "\n",
                     ];
                     let field = |_| *rng.pick(&fields);
                     (0..size / 6).map(field).collect::<String>().into()
@@ -421,7 +509,10 @@ fn random_bytes() {
                     // Lines of the right kinds, most with the right numbers.
                     let lines = [
                         "     5\n",
-                        "     7\n",
+                        "     7    30\n",
+                        "     8    30\n",
+                        "     7     2\n",
+                        "     8     2\n",
                         "     6     1\n",
                         "     2     1\n",
                         "     4     1     2\n",
@@ -430,6 +521,8 @@ fn random_bytes() {
                         "     3     1     0\n",
                         "     3     1     2     1\n",
                         "     6     1     1\n",
+                        "     7\n",
+                        "     8\n",
                         "     5",
                     ];
                     let line = |_| *rng.pick(&lines);
@@ -534,7 +627,7 @@ fn bytes_beside_the_journal() {
         let own = file.len();
         // What would go on well as a journal, and what would not.
         file.extend(match round % 3 {
-            0 => b"     5\n     7\n".as_slice(),
+            0 => b"     5\n     7    30\n".as_slice(),
             1 => b"\n\n\n\n\n\n\n\n",
             _ => b"99999999",
         });

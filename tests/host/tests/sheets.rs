@@ -140,14 +140,14 @@ fn sound_sheets() {
         let mut rng = Rng::new(run);
         (0..10).map(|_| Case::from(kind.sheet(&mut rng))).collect()
     };
-    let met = compare(170, |run| match run {
+    let met = compare(160, |run| match run {
         0..=35 => of_kind(run),
         36..=39 => cases::largest(run, 25),
         40..=49 => cases::reviews_and_trials(run, 100),
         _ => cases::sound(run, 220),
     });
     println!("{}", met.summary());
-    assert_eq!(met.sheets, 36 * 10 + 4 * 25 + 10 * 100 + 120 * 220);
+    assert_eq!(met.sheets, 36 * 10 + 4 * 25 + 10 * 100 + 110 * 220);
     let plans = &met.plans;
     assert_eq!(plans.count, met.sheets);
     assert!(met.sheets >= 25_000);

@@ -33,9 +33,14 @@ fn known_sheets() {
             "     1  1441     1     1\n     1     5     2     2     2\n     3     1     0\n",
             SHEET,
         ),
+        // Lists with fewer entries than there are batches.
+        ("     7     2\n     8     2\n     8     0\n", SHEET),
         ("     4     1     2\n", &planned),
-        ("     7\n", &planned),
-        ("     7\n     4     1     1\n", SHEET),
+        ("     7     3\n", &planned),
+        ("     8     3\n", &planned),
+        ("     7     3\n     8     3\n", &planned),
+        ("     8     3\n     7     3\n", &planned),
+        ("     7     3\n     4     1     1\n", SHEET),
         (
             "     1    15     2     2     1\n",
             "     2     4
@@ -99,8 +104,25 @@ fn known_sheets() {
     assert_eq!(written(open, "     4     2     1\n"), moved);
     for empty in ["     1     0\n", "    24     0\n"] {
         assert_eq!(written(empty, ""), empty);
-        assert_eq!(written(empty, "     7\n     2     1\n"), empty);
+        let journal = "     7     0\n     8     0\n     2     1\n";
+        assert_eq!(written(empty, journal), empty);
     }
+    // Balance leaves this sheet as it is, and settle does not.
+    let unsettled = "     2     4
+     2     2     1     2
+     4     1     2     2     1
+     5     1     2     2     1
+     2     2     2     1     2
+";
+    let settled = "     2     4
+     2     2     1     2
+     4     2     2     2     1
+     5     1     2     2     1
+     2     1     2     1     2
+";
+    assert_eq!(written(unsettled, "     7     4\n"), unsettled);
+    assert_eq!(written(unsettled, "     8     3\n"), unsettled);
+    assert_eq!(written(unsettled, "     8     4\n"), settled);
 }
 
 /// A sheet of 200 batches takes no more, but one for another.
@@ -123,7 +145,7 @@ fn a_full_sheet() {
 }
 
 /// The largest there is, as it was read, made by adding to one that is nearly
-/// as large, by requalifying all of one that is small, and planned.
+/// as large, by requalifying all of one that is small, balanced and settled.
 #[test]
 fn the_largest() {
     assert_eq!(LARGEST_SHEET, 32_613);
@@ -144,7 +166,8 @@ fn the_largest() {
         (draft(200, &most), vec![add.clone()]),
         (draft(199, &most), vec![add]),
         (draft(200, &[24]), (1..=200).map(requalify).collect()),
-        (draft(200, &most), vec![Call::Plan]),
+        (draft(200, &most), vec![Call::Balance { entries: 200 }]),
+        (draft(200, &most), vec![Call::Settle { entries: 200 }]),
     ] {
         let (sheet, journal) = (sheet.render(), journal(&calls));
         let due = &dues(&sheet, &journal)[1];

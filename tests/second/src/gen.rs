@@ -215,6 +215,13 @@ pub fn call_list(rng: &mut Rng, m: u32) -> Vec<u64> {
     list
 }
 
+/// Entries of a list lent for the records of about `n` batches.
+fn call_entries(rng: &mut Rng, n: u64) -> u64 {
+    let near = (n + rng.below(3)).saturating_sub(1);
+    let usual = *rng.pick(&[near, near, Sheet::BATCHES as u64]);
+    edge_or(rng, usual)
+}
+
 /// Calls of every kind with arguments good and bad, meant for a sheet of `m`
 /// instruments that starts with `n` batches of lengths up to `longest`.
 pub fn calls(rng: &mut Rng, m: u32, n: u32, longest: u32, count: usize) -> Vec<Call> {
@@ -224,7 +231,7 @@ pub fn calls(rng: &mut Rng, m: u32, n: u32, longest: u32, count: usize) -> Vec<C
     for _ in 0..count {
         let usual = rng.below(n + 2);
         let number = edge_or(rng, usual);
-        calls.push(match rng.below(12) {
+        calls.push(match rng.below(13) {
             0..=2 => {
                 n = (n + 1).min(Sheet::BATCHES as u64);
                 let usual = rng.within(1, longest) as u64;
@@ -255,7 +262,12 @@ pub fn calls(rng: &mut Rng, m: u32, n: u32, longest: u32, count: usize) -> Vec<C
                     level: edge_or(rng, usual),
                 }
             }
-            _ => Call::Plan,
+            11 => Call::Balance {
+                entries: call_entries(rng, n),
+            },
+            _ => Call::Settle {
+                entries: call_entries(rng, n),
+            },
         });
     }
     calls

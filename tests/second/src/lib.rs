@@ -7,8 +7,10 @@
 //! files and calls for tests.
 
 pub mod draft;
+pub mod file;
 pub mod gen;
 pub mod listing;
+pub mod moves;
 pub mod plan;
 pub mod read;
 pub mod rng;
@@ -19,11 +21,13 @@ pub mod trial;
 pub mod write;
 
 pub use draft::{Draft, Line};
+pub use file::{balance_file, settle_file};
 pub use listing::{host, program, HostAnswer};
-pub use plan::{plan, Plan};
+pub use moves::Move;
+pub use plan::{balance, plan, Balanced, Plan};
 pub use read::{read, Fault};
 pub use run::{apply, run, Answer, Call};
-pub use settle::{review, settle, Review};
+pub use settle::{review, settle, Review, Settled};
 pub use sheet::{Batch, Refusal, Sheet};
 pub use trial::{trial, Trial, Verdict};
 pub use write::write;

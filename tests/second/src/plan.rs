@@ -1,11 +1,14 @@
-//! Planning (document 01, "Planning").
+//! Planning (document 01, "Planning"): balance, and settling after it (document
+//! 02, C-14).
 
+use crate::moves::{judge_entries, records, Move};
 use crate::settle::settle;
-use crate::sheet::Sheet;
+use crate::sheet::{Refusal, Sheet};
 use crate::trial::{trial, Verdict};
 
+/// What balancing comes to.
 #[derive(Clone, Debug, PartialEq, Eq)]
-pub struct Plan {
+pub struct Balanced {
     pub finish: u32,
     pub floor: u32,
     /// The group of the last trial that failed.
@@ -14,12 +17,13 @@ pub struct Plan {
     /// Of the trial kept.
     pub raises: u32,
     pub bumps: u32,
-    /// Of settling.
-    pub moves: u64,
+    pub records: Vec<Move>,
 }
 
-/// Plan a sheet, which gets the new places.
-pub fn plan(sheet: &mut Sheet) -> Plan {
+/// Balance a sheet, with a list of so many entries lent for the records.
+pub fn balance(sheet: &mut Sheet, entries: u64) -> Result<Balanced, Refusal> {
+    judge_entries(sheet, entries)?;
+    let before = sheet.places();
     let mut f = -1;
     let mut p = sheet.finish() as i64;
     let (mut places, mut raises, mut bumps) = (sheet.places(), 0, 0);
@@ -42,15 +46,43 @@ pub fn plan(sheet: &mut Sheet) -> Plan {
     for (batch, place) in sheet.batches.iter_mut().zip(places) {
         batch.place = place;
     }
-    let moves = settle(sheet);
     let share = |g: &Vec<u32>| sheet.confined(g).div_ceil(g.len() as u32);
-    Plan {
+    Ok(Balanced {
         finish: sheet.finish(),
         floor: sheet.longest().max(group.as_ref().map_or(0, share)),
         group,
         level: p as u32,
         raises,
         bumps,
-        moves,
+        records: records(&before, sheet),
+    })
+}
+
+/// What both come to.
+#[derive(Clone, Debug, PartialEq, Eq)]
+pub struct Plan {
+    pub finish: u32,
+    pub floor: u32,
+    pub group: Option<Vec<u32>>,
+    pub level: u32,
+    pub raises: u32,
+    pub bumps: u32,
+    pub moves: u64,
+}
+
+/// Plan a sheet, which gets the new places: balance it, and settle it straight
+/// after. The finish and the moves are settling's.
+pub fn plan(sheet: &mut Sheet) -> Plan {
+    let entries = sheet.batches.len() as u64;
+    let balanced = balance(sheet, entries).expect("an entry for each batch");
+    let settled = settle(sheet, entries).expect("an entry for each batch");
+    Plan {
+        finish: settled.finish,
+        floor: balanced.floor,
+        group: balanced.group,
+        level: balanced.level,
+        raises: balanced.raises,
+        bumps: balanced.bumps,
+        moves: settled.moves,
     }
 }

@@ -1,10 +1,13 @@
-//! Calls one after the other on one sheet (document 01, "Runs").
+//! Calls one after the other on one sheet (document 01, "Runs"; document 02,
+//! C-14: balance and settle stand for planning).
 
-use crate::plan::{plan, Plan};
-use crate::settle::{review, Review};
+use crate::plan::{balance, Balanced};
+use crate::settle::{review, settle, Review, Settled};
 use crate::sheet::{Refusal, Sheet};
 use crate::trial::{trial, Trial};
 
+/// A call. Balance and settle have so many entries in the list lent for their
+/// records.
 #[derive(Clone, Debug, PartialEq, Eq)]
 pub enum Call {
     Add { length: u64, list: Vec<u64> },
@@ -13,7 +16,8 @@ pub enum Call {
     Move { number: u64, instrument: u64 },
     Review,
     Trial { level: u64 },
-    Plan,
+    Balance { entries: u64 },
+    Settle { entries: u64 },
 }
 
 #[derive(Clone, Debug, PartialEq, Eq)]
@@ -23,7 +27,8 @@ pub enum Answer {
     Done,
     Review(Review),
     Trial(Trial),
-    Plan(Plan),
+    Balance(Balanced),
+    Settle(Settled),
 }
 
 /// Make one call.
@@ -37,7 +42,8 @@ pub fn apply(sheet: &mut Sheet, call: &Call) -> Answer {
         }
         Call::Review => Ok(Answer::Review(review(sheet))),
         Call::Trial { level } => trial(sheet, *level).map(Answer::Trial),
-        Call::Plan => Ok(Answer::Plan(plan(sheet))),
+        Call::Balance { entries } => balance(sheet, *entries).map(Answer::Balance),
+        Call::Settle { entries } => settle(sheet, *entries).map(Answer::Settle),
     };
     answer.unwrap_or_else(Answer::Refused)
 }

@@ -1,8 +1,10 @@
-//! Who gains, review, and settling (document 01, "Loads and settling").
+//! Who gains, review, and settling (document 01, "Loads and settling"; document
+//! 02, C-14 for settling as a call).
 
 use std::cmp::Reverse;
 
-use crate::sheet::{at, Batch, Sheet};
+use crate::moves::{judge_entries, records, Move};
+use crate::sheet::{at, Batch, Refusal, Sheet};
 
 #[derive(Clone, Debug, PartialEq, Eq)]
 pub struct Review {
@@ -23,8 +25,19 @@ pub fn review(sheet: &Sheet) -> Review {
     }
 }
 
-/// Settle a sheet; gives how many moves that took.
-pub fn settle(sheet: &mut Sheet) -> u64 {
+/// What settling comes to.
+#[derive(Clone, Debug, PartialEq, Eq)]
+pub struct Settled {
+    pub finish: u32,
+    /// How many moves it took. A batch may make several, or return.
+    pub moves: u64,
+    pub records: Vec<Move>,
+}
+
+/// Settle a sheet, with a list of so many entries lent for the records.
+pub fn settle(sheet: &mut Sheet, entries: u64) -> Result<Settled, Refusal> {
+    judge_entries(sheet, entries)?;
+    let before = sheet.places();
     let mut loads = sheet.loads();
     let mut moves = 0;
     while let Some((i, to)) = next_move(sheet, &loads) {
@@ -34,7 +47,11 @@ pub fn settle(sheet: &mut Sheet) -> u64 {
         batch.place = to;
         moves += 1;
     }
-    moves
+    Ok(Settled {
+        finish: sheet.finish(),
+        moves,
+        records: records(&before, sheet),
+    })
 }
 
 /// The instruments that a batch could go to.

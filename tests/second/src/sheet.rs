@@ -19,7 +19,8 @@ pub enum Refusal {
     Full = 7,
     /// The trial's level is above the total.
     Level = 8,
-    /// The listing's buffer is too short.
+    /// What the host lends is too short: a buffer for its text, or a list for
+    /// the records of moves.
     Buffer = 9,
 }
 

@@ -21,6 +21,19 @@ fn planned(draft: &Draft) -> (Sheet, Plan) {
     (sheet, plan)
 }
 
+/// Balance a sheet and settle it straight after, each with a list that just
+/// suffices.
+fn both(sheet: &mut Sheet) -> (Balanced, Settled) {
+    let entries = sheet.batches().len() as u64;
+    let balanced = balance(sheet, entries).expect("an entry for each batch");
+    let settled = settle(sheet, entries).expect("an entry for each batch");
+    (balanced, settled)
+}
+
+fn went(batch: u32, from: u32, to: u32) -> Move {
+    Move { batch, from, to }
+}
+
 fn three_tens() -> Draft {
     Draft::new(2, &[(10, 0, &[1]), (10, 0, &[1]), (10, 0, &[1])])
 }
@@ -43,6 +56,26 @@ fn p1_listing() {
     assert_eq!(answer, expected);
     assert_eq!(&buffer[..P1_LISTING.len()], P1_LISTING);
     assert!(buffer[P1_LISTING.len()..].iter().all(|&b| b == b'#'));
+
+    let mut sheet = read(P1).unwrap();
+    let (balanced, settled) = both(&mut sheet);
+    let expected = Balanced {
+        finish: 30,
+        floor: 30,
+        group: None,
+        level: 0,
+        raises: 2,
+        bumps: 2,
+        records: vec![went(1, 1, 2)],
+    };
+    assert_eq!(balanced, expected);
+    let expected = Settled {
+        finish: 30,
+        moves: 0,
+        records: vec![],
+    };
+    assert_eq!(settled, expected);
+    assert_eq!(sheet.places(), [2, 1, 1]);
 }
 
 #[test]
@@ -58,6 +91,23 @@ fn p2_all_on_one() {
         moves: 0,
     };
     assert_eq!(plan, expected);
+    let (balanced, settled) = both(&mut three_tens().sheet());
+    let expected = Balanced {
+        finish: 30,
+        floor: 30,
+        group: Some(vec![1]),
+        level: 20,
+        raises: 0,
+        bumps: 0,
+        records: vec![],
+    };
+    assert_eq!(balanced, expected);
+    let expected = Settled {
+        finish: 30,
+        moves: 0,
+        records: vec![],
+    };
+    assert_eq!(settled, expected);
     let text = "    30    30    20     0     0           0\n     1     1\n";
     let batches = "     1     1    10\n     2     1    10\n     3     1    10\n";
     let listing = program(&three_tens().render());
@@ -70,6 +120,11 @@ fn p3_no_batch() {
         let (_, plan) = planned(&Draft::new(m, &[]));
         assert_eq!((plan.finish, plan.floor, plan.level), (0, 0, 0));
         assert_eq!((plan.group, plan.moves), (None, 0));
+        let (balanced, settled) = both(&mut Sheet::empty(m).unwrap());
+        let numbers = (balanced.finish, balanced.floor, balanced.level);
+        assert_eq!((numbers, balanced.group), ((0, 0, 0), None));
+        assert_eq!((settled.finish, settled.moves), (0, 0));
+        assert_eq!([balanced.records, settled.records], [[], []]);
         let listing = program(&Draft::new(m, &[]).render());
         let expected = b"     0     0     0     0     0           0\n     0\n";
         assert_eq!(listing, expected);
@@ -84,6 +139,11 @@ fn p4_one_long_batch() {
         assert_eq!(numbers, (1440, 1440, 0));
         assert_eq!(plan.group, None);
         assert_eq!(sheet.places(), [list[0]]);
+        let (balanced, settled) = both(&mut Draft::new(m, &[(1440, 0, &list)]).sheet());
+        let numbers = (balanced.finish, balanced.floor, balanced.level);
+        assert_eq!((numbers, balanced.group), ((1440, 1440, 0), None));
+        assert_eq!((settled.finish, settled.moves), (1440, 0));
+        assert_eq!([balanced.records, settled.records], [[], []]);
     }
 }
 
@@ -96,7 +156,11 @@ fn p5_equality_is_no_gain() {
     let answer = review(&two_loads(30));
     assert_eq!((answer.loads, answer.finish), (vec![30, 20], 30));
     assert_eq!(answer.gains, None);
-    assert_eq!(settle(&mut two_loads(30)), 0);
+    let mut sheet = two_loads(30);
+    let settled = settle(&mut sheet, 3).unwrap();
+    assert_eq!((settled.finish, settled.moves), (30, 0));
+    assert_eq!(settled.records, []);
+    assert_eq!(sheet, two_loads(30));
 }
 
 #[test]
@@ -105,7 +169,9 @@ fn p6_one_minute_is_a_gain() {
     assert_eq!((answer.loads, answer.finish), (vec![31, 20], 31));
     assert_eq!(answer.gains, Some(3));
     let mut sheet = two_loads(31);
-    assert_eq!(settle(&mut sheet), 1);
+    let settled = settle(&mut sheet, 3).unwrap();
+    assert_eq!((settled.finish, settled.moves), (30, 1));
+    assert_eq!(settled.records, [went(3, 1, 2)]);
     assert_eq!(sheet.places(), [1, 2, 2]);
 }
 
@@ -277,6 +343,155 @@ fn passing_is_not_monotone() {
     assert_eq!(sheet.finish(), 6);
     let answer = plan(&mut sheet.clone());
     assert_eq!((answer.level, answer.group), (0, None));
+}
+
+/// Every trial that passes leaves the standing places, and settling then moves
+/// two batches.
+#[test]
+fn balance_ends_before_settling() {
+    let mut sheet = Draft::new(
+        2,
+        &[
+            (2, 2, &[2]),
+            (4, 1, &[2, 1]),
+            (5, 1, &[2, 1]),
+            (2, 2, &[1, 2]),
+        ],
+    )
+    .sheet();
+    let listed = plan(&mut sheet.clone());
+    let balanced = balance(&mut sheet, 4).unwrap();
+    let expected = Balanced {
+        finish: 9,
+        floor: 7,
+        group: Some(vec![1, 2]),
+        level: 4,
+        raises: 0,
+        bumps: 0,
+        records: vec![],
+    };
+    assert_eq!(balanced, expected);
+    assert_eq!(review(&sheet).gains, Some(2));
+    let settled = settle(&mut sheet, 4).unwrap();
+    let expected = Settled {
+        finish: 7,
+        moves: 2,
+        records: vec![went(2, 1, 2), went(4, 2, 1)],
+    };
+    assert_eq!(settled, expected);
+    assert_eq!(sheet.places(), [2, 2, 1, 1]);
+    let numbers = (listed.finish, listed.floor, listed.level, listed.moves);
+    assert_eq!((numbers, listed.group), ((7, 7, 4, 2), Some(vec![1, 2])));
+}
+
+/// Settling alone, on the first case's sheet; then each of the two again.
+#[test]
+fn settle_alone() {
+    let mut sheet = read(P1).unwrap();
+    let settled = settle(&mut sheet, 3).unwrap();
+    assert_eq!((settled.finish, settled.moves), (30, 1));
+    assert_eq!(settled.records, [went(1, 1, 2)]);
+    let once = sheet.clone();
+    let again = settle(&mut sheet, 4).unwrap();
+    assert_eq!((again.finish, again.moves), (30, 0));
+    let balanced = balance(&mut sheet, 4).unwrap();
+    assert_eq!((balanced.finish, balanced.raises), (30, 0));
+    assert_eq!([again.records, balanced.records], [[], []]);
+    assert_eq!(sheet, once);
+}
+
+/// Batch 2 goes from 3 to 2 and back, and batch 4 leaves 3 in between.
+#[test]
+fn a_batch_that_returns_has_no_record() {
+    let mut sheet = Draft::new(
+        3,
+        &[(1, 3, &[3]), (4, 3, &[2, 3]), (2, 2, &[2]), (2, 3, &[1, 3])],
+    )
+    .sheet();
+    let settled = settle(&mut sheet, 4).unwrap();
+    let expected = Settled {
+        finish: 5,
+        moves: 3,
+        records: vec![went(4, 3, 1)],
+    };
+    assert_eq!(settled, expected);
+    assert_eq!(sheet.places(), [3, 3, 2, 1]);
+}
+
+/// What counts is how many batches there are, not how many records.
+#[test]
+fn lists_with_too_few_entries() {
+    let settled = Draft::new(2, &[(5, 1, &[1]), (5, 2, &[2])]).sheet();
+    for sheet in [read(P1).unwrap(), settled, ones(200).sheet()] {
+        let n = sheet.batches().len() as u64;
+        for entries in 0..n {
+            let mut after = sheet.clone();
+            assert_eq!(balance(&mut after, entries), Err(Refusal::Buffer));
+            assert_eq!(settle(&mut after, entries), Err(Refusal::Buffer));
+            assert_eq!(after, sheet);
+        }
+        let (mut first, mut second) = (sheet.clone(), sheet.clone());
+        let due = (balance(&mut first, n), settle(&mut second, n));
+        assert!(due.0.is_ok() && due.1.is_ok());
+        for entries in [n + 1, 201, 999_999, 1 << 32, u64::MAX] {
+            let (mut one, mut other) = (sheet.clone(), sheet.clone());
+            let found = (balance(&mut one, entries), settle(&mut other, entries));
+            assert_eq!(found, due);
+            assert_eq!((one, other), (first.clone(), second.clone()));
+        }
+    }
+    assert_eq!(settle(&mut Sheet::empty(1).unwrap(), 0).unwrap().finish, 0);
+    assert_eq!(balance(&mut Sheet::empty(1).unwrap(), 0).unwrap().finish, 0);
+}
+
+/// The first case's sheet as a file: settled and balanced it is the same.
+#[test]
+fn files() {
+    let text = std::str::from_utf8(P1).unwrap();
+    let after = text.replace("30     1", "30     2");
+    let unused = went(7, 8, 9);
+    for (entries, room) in [(3, 100), (4, 100), (3, 101), (200, 1_000)] {
+        let (mut moves, mut buffer) = (vec![unused; entries], vec![b'#'; room]);
+        let (settled, length) = settle_file(P1, &mut moves, &mut buffer).unwrap();
+        assert_eq!((settled.finish, settled.moves, length), (30, 1, 100));
+        assert_eq!(
+            (moves[0], &settled.records[..]),
+            (went(1, 1, 2), &moves[..1])
+        );
+        assert!(moves[1..].iter().all(|&entry| entry == unused));
+        assert_eq!(&buffer[..100], after.as_bytes());
+        assert!(buffer[100..].iter().all(|&b| b == b'#'));
+
+        let (mut others, mut second) = (vec![unused; entries], vec![b'#'; room]);
+        let (balanced, length) = balance_file(P1, &mut others, &mut second).unwrap();
+        let numbers = (balanced.finish, balanced.floor, balanced.raises);
+        assert_eq!((numbers, length), ((30, 30, 2), 100));
+        assert_eq!((others, second), (moves, buffer));
+    }
+    let bad = text.replace("    20", "  1441");
+    let empty: &[u8] = b"";
+    for (file, entries, room, refusal, line) in [
+        (P1, 2, 1_000, 9, 0),
+        (P1, 200, 99, 9, 0),
+        (P1, 0, 0, 9, 0),
+        (bad.as_bytes(), 200, 1_000, 3, 3),
+        (bad.as_bytes(), 2, 0, 3, 3),
+        (empty, 0, 0, 1, 1),
+    ] {
+        let (mut moves, mut buffer) = (vec![unused; entries], vec![b'#'; room]);
+        let settled = settle_file(file, &mut moves, &mut buffer).unwrap_err();
+        let balanced = balance_file(file, &mut moves, &mut buffer).unwrap_err();
+        assert_eq!((settled.refusal.number(), settled.line), (refusal, line));
+        assert_eq!(settled, balanced);
+        assert_eq!(moves, vec![unused; entries]);
+        assert_eq!(buffer, vec![b'#'; room]);
+    }
+    // Without a batch no entry is needed.
+    let none = b"     2     0
+";
+    let mut buffer = [b'#'; 13];
+    assert!(settle_file(none, &mut [], &mut buffer).is_ok());
+    assert_eq!(buffer, *none);
 }
 
 #[test]

@@ -1,4 +1,5 @@
-//! The four edits: what each refuses, in which order, and what it changes.
+//! The four edits: what each refuses, in which order, and what it changes. And
+//! what the other calls refuse.
 
 use second::*;
 
@@ -77,6 +78,12 @@ fn edits_refused() {
     let total = sheet.total() as u64;
     for level in [total + 1, u64::MAX] {
         assert_eq!(turned_down(&sheet, Call::Trial { level }), 8);
+    }
+    for sheet in [sheet, full] {
+        for entries in 0..sheet.batches().len() as u64 {
+            assert_eq!(turned_down(&sheet, Call::Balance { entries }), 9);
+            assert_eq!(turned_down(&sheet, Call::Settle { entries }), 9);
+        }
     }
 }
 

@@ -28,8 +28,22 @@ fn refused(bytes: &[u8]) -> (u32, u32) {
         (answer.refusal, answer.line, answer.length),
         (found.0, found.1, 0)
     );
-    assert_eq!(buffer, [0xa5; 64]);
     assert_eq!(host(bytes, &mut []), answer);
+    let unused = Move {
+        batch: 9,
+        from: 9,
+        to: 9,
+    };
+    let mut moves = [unused; 3];
+    for entries in [0, 3] {
+        let moves = &mut moves[..entries];
+        let settled = settle_file(bytes, moves, &mut buffer);
+        assert_eq!(settled.map(|_| ()), Err(fault));
+        let balanced = balance_file(bytes, moves, &mut buffer);
+        assert_eq!(balanced.map(|_| ()), Err(fault));
+    }
+    assert_eq!(moves, [unused; 3]);
+    assert_eq!(buffer, [0xa5; 64]);
     let line = six(found.0) + &six(found.1) + "\n";
     assert_eq!(program(bytes), line.as_bytes());
     found

@@ -25,6 +25,21 @@ pub fn placed(sheet: &Sheet, places: &[u32]) -> Sheet {
     draft.sheet()
 }
 
+/// The records lead from the sheet to what became of it: they ascend, each says
+/// where its batch was, and with all of them made, and no fewer, the sheet is
+/// what it became.
+pub fn record_laws(sheet: &Sheet, after: &Sheet, records: &[Move]) {
+    assert!(records.is_sorted_by(|a, b| a.batch < b.batch));
+    let mut made = sheet.clone();
+    for record in records {
+        let before = sheet.batches()[record.batch as usize - 1].place;
+        assert_eq!(record.from, before);
+        assert_ne!(record.to, before);
+        made.shift(record.batch as u64, record.to as u64).unwrap();
+    }
+    assert_eq!(&made, after);
+}
+
 /// The earliest finish of any permitted plan, by going through all of them.
 pub fn optimum(sheet: &Sheet) -> u32 {
     fn least(sheet: &Sheet, places: &mut Vec<u32>) -> u32 {
@@ -83,7 +98,7 @@ pub fn chain(rng: &mut Rng) -> Sheet {
     draft.sheet()
 }
 
-/// The levels that planning tries, with their answers: both ends of the gap
+/// The levels that balancing tries, with their answers: both ends of the gap
 /// and what each trial found.
 pub fn halving(sheet: &Sheet) -> Vec<(u32, Trial)> {
     let mut tried = Vec::new();

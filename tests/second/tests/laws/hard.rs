@@ -2,7 +2,8 @@
 
 use second::*;
 
-use crate::common::{halving, step_bounds};
+use crate::common::{halving, record_laws, step_bounds};
+use crate::settling::settle_laws;
 use crate::watch::watch;
 
 fn steps(trial: &Trial) -> u32 {
@@ -27,8 +28,8 @@ fn many_steps_within_the_bounds() {
         assert!(most > 200_000, "{seed}: {most}");
         assert!(sum > 600_000, "{seed}: {sum}");
 
-        let mut planned = sheet.clone();
-        let answer = plan(&mut planned);
+        let mut balanced = sheet.clone();
+        let answer = balance(&mut balanced, 200).unwrap();
         let passes = |t: &&(u32, Trial)| matches!(t.1.verdict, Verdict::Pass(_));
         let kept = tried.iter().rev().find(passes).unwrap();
         assert_eq!(
@@ -37,7 +38,10 @@ fn many_steps_within_the_bounds() {
         );
         assert!(answer.finish <= sheet.finish());
         assert!(answer.finish < answer.floor + sheet.longest());
-        assert_eq!(review(&planned).gains, None);
+        record_laws(&sheet, &balanced, &answer.records);
+        let settled = settle_laws(&balanced);
+        assert!(settled.answer.finish <= answer.finish);
+        assert_eq!(review(&settled.after).gains, None);
     }
 }
 

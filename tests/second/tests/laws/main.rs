@@ -3,6 +3,7 @@
 //! and small sheets are compared with all of their plans.
 
 mod common;
+mod files;
 mod hard;
 mod planning;
 mod reading;

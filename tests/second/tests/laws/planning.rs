@@ -1,17 +1,23 @@
-//! Planning: its search done again trial by trial, and its bounds.
+//! Planning: balance, its search done again trial by trial, its bounds, and
+//! settling straight after it.
 
 use second::rng::Rng;
 use second::*;
 
-use crate::common::{chain, halving, optimum, permitted, placed};
-use crate::settling::{review_laws, settle_laws};
+use crate::common::{chain, halving, optimum, permitted, placed, record_laws};
+use crate::settling::{review_laws, settle_laws, Watched};
 
-/// Check a planning of this sheet; gives what it comes to.
-pub fn plan_laws(sheet: &Sheet) -> (Sheet, Plan) {
+/// Check a balancing of this sheet; gives what it comes to.
+pub fn balance_laws(sheet: &Sheet) -> (Sheet, Balanced) {
     let longest = sheet.longest();
     let old = sheet.finish();
+    let entries = sheet.batches().len() as u64;
     let mut after = sheet.clone();
-    let answer = plan(&mut after);
+    if entries > 0 {
+        assert_eq!(balance(&mut after, entries - 1), Err(Refusal::Buffer));
+        assert_eq!(&after, sheet);
+    }
+    let answer = balance(&mut after, entries).unwrap();
 
     // The last trials that passed and failed.
     let (mut level, mut places) = (old, sheet.places());
@@ -27,14 +33,11 @@ pub fn plan_laws(sheet: &Sheet) -> (Sheet, Plan) {
     }
     assert_eq!(answer.level, level);
     assert_eq!((answer.raises, answer.bumps), counts);
-    let unsettled = placed(sheet, &places);
-    let (settled, moves) = settle_laws(&unsettled);
-    assert_eq!((&after, answer.moves), (&settled, moves));
+    assert!(permitted(sheet, &places));
+    assert_eq!(after, placed(sheet, &places));
+    record_laws(sheet, &after, &answer.records);
     assert_eq!(answer.finish, after.finish());
-    assert!(answer.finish <= unsettled.finish() && answer.finish <= old);
-    assert!(permitted(sheet, &after.places()));
-    review_laws(&after);
-    assert_eq!(review(&after).gains, None);
+    assert!(answer.finish <= old);
     assert_eq!(
         answer.group,
         failed.as_ref().map(|(_, group)| group.clone())
@@ -66,28 +69,55 @@ pub fn plan_laws(sheet: &Sheet) -> (Sheet, Plan) {
     (after, answer)
 }
 
+/// Check a planning of this sheet, the two calls one after the other; gives what
+/// it comes to.
+pub fn plan_laws(sheet: &Sheet) -> (Sheet, Balanced, Settled) {
+    let (middle, balanced) = balance_laws(sheet);
+    let Watched { after, answer, .. } = settle_laws(&middle);
+    assert!(answer.finish <= balanced.finish);
+    review_laws(&after);
+    assert_eq!(review(&after).gains, None);
+    let mut planned = sheet.clone();
+    let both = Plan {
+        finish: answer.finish,
+        floor: balanced.floor,
+        group: balanced.group.clone(),
+        level: balanced.level,
+        raises: balanced.raises,
+        bumps: balanced.bumps,
+        moves: answer.moves,
+    };
+    assert_eq!(plan(&mut planned), both);
+    assert_eq!(planned, after);
+    (after, balanced, answer)
+}
+
 /// The bounds on the best finish, which was found by going through all plans.
-fn bounds(sheet: &Sheet, answer: &Plan, optimum: u32) {
-    assert!(answer.floor <= optimum && optimum <= answer.finish);
-    assert!(sheet.batches().is_empty() || answer.finish < optimum + sheet.longest());
+/// Settling keeps them.
+fn bounds(sheet: &Sheet, balanced: &Balanced, settled: &Settled, optimum: u32) {
+    assert!(balanced.floor <= optimum && optimum <= settled.finish);
+    assert!(sheet.batches().is_empty() || balanced.finish < optimum + sheet.longest());
 }
 
 #[test]
 fn small_sheets() {
     let mut rng = Rng::new(52);
-    let (mut grouped, mut later) = (0, 0);
+    let (mut grouped, mut later, mut settling) = (0, 0, 0);
     for _ in 0..20_000 {
         let sheet = gen::sheet(&mut rng, gen::SMALL);
-        let (after, answer) = plan_laws(&sheet);
+        let (after, balanced, settled) = plan_laws(&sheet);
         let optimum = optimum(&sheet);
-        bounds(&sheet, &answer, optimum);
-        grouped += answer.group.is_some() as u32;
-        later += (answer.finish > optimum) as u32;
+        bounds(&sheet, &balanced, &settled, optimum);
+        grouped += balanced.group.is_some() as u32;
+        later += (settled.finish > optimum) as u32;
+        settling += (settled.finish < balanced.finish) as u32;
         // What was planned can be planned again, and is not made worse.
-        let (_, again) = plan_laws(&after);
-        bounds(&after, &again, optimum);
+        let (_, balanced, settled) = plan_laws(&after);
+        bounds(&after, &balanced, &settled, optimum);
     }
-    assert!(grouped > 2000 && later > 300, "{grouped} {later}");
+    let counts = [grouped, later, settling];
+    assert!(counts.into_iter().all(|count| count > 300), "{counts:?}");
+    assert!(grouped > 2000, "{grouped}");
 }
 
 #[test]

@@ -3,8 +3,8 @@
 use second::rng::Rng;
 use second::*;
 
-use crate::planning::plan_laws;
-use crate::settling::review_laws;
+use crate::planning::balance_laws;
+use crate::settling::{review_laws, settle_laws};
 use crate::watch::watch;
 
 /// May the list stand on a sheet of `m` instruments?
@@ -44,7 +44,10 @@ fn refusal_due(book: &Draft, call: &Call) -> Option<Refusal> {
             ),
         ],
         Call::Trial { level } => &[(*level <= total, Refusal::Level)],
-        Call::Review | Call::Plan => &[],
+        Call::Balance { entries } | Call::Settle { entries } => {
+            &[(book.lines.len() as u64 <= *entries, Refusal::Buffer)]
+        }
+        Call::Review => &[],
     };
     let failed = checks.iter().find(|(holds, _)| !holds);
     failed.map(|(_, refusal)| *refusal)
@@ -80,10 +83,15 @@ fn enter(book: &mut Draft, call: &Call) -> Answer {
         Call::Trial { level } => {
             return Answer::Trial(watch(&book.sheet(), *level, 7).answer);
         }
-        Call::Plan => {
-            let (after, answer) = plan_laws(&book.sheet());
+        Call::Balance { .. } => {
+            let (after, answer) = balance_laws(&book.sheet());
             *book = Draft::from(&after);
-            return Answer::Plan(answer);
+            return Answer::Balance(answer);
+        }
+        Call::Settle { .. } => {
+            let watched = settle_laws(&book.sheet());
+            *book = Draft::from(&watched.after);
+            return Answer::Settle(watched.answer);
         }
     }
     Answer::Done
@@ -114,6 +122,7 @@ fn run_laws(draft: &Draft, calls: &[Call]) -> Vec<Answer> {
 fn runs() {
     let mut rng = Rng::new(31);
     let mut refusals = [0; 10];
+    let (mut balanced, mut settled, mut records) = (0, 0, 0);
     for round in 0..4000 {
         let (shape, count) = match round % 10 {
             0 => (gen::MEDIUM, 25),
@@ -123,14 +132,25 @@ fn runs() {
         let n = draft.lines.len() as u32;
         let calls = gen::calls(&mut rng, draft.instruments, n, shape.lengths.1, count);
         for answer in run_laws(&draft, &calls) {
-            if let Answer::Refused(refusal) = answer {
-                refusals[refusal.number() as usize] += 1;
+            match answer {
+                Answer::Refused(refusal) => refusals[refusal.number() as usize] += 1,
+                Answer::Balance(answer) => {
+                    balanced += 1;
+                    records += answer.records.len();
+                }
+                Answer::Settle(answer) => {
+                    settled += 1;
+                    records += answer.records.len();
+                }
+                _ => {}
             }
         }
     }
-    for number in [3, 4, 5, 6, 8] {
+    for number in [3, 4, 5, 6, 8, 9] {
         assert!(refusals[number] > 200, "{refusals:?}");
     }
+    let counts = [balanced, settled, records];
+    assert!(counts.into_iter().all(|count| count > 4000), "{counts:?}");
 }
 
 /// Runs that start full, so that adding is refused for want of room.

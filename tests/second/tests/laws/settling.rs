@@ -1,10 +1,12 @@
 //! Review and settling: who gains, and every move.
 
+use std::collections::BTreeSet;
+
 use second::rng::Rng;
 use second::settle::next_move;
 use second::*;
 
-use crate::common::{chain, loads, permitted};
+use crate::common::{chain, loads, permitted, record_laws};
 
 /// The batches that gain, by index.
 fn gaining(sheet: &Sheet) -> Vec<usize> {
@@ -32,11 +34,20 @@ fn squares(sheet: &Sheet) -> u64 {
     loads.iter().map(|&l| l as u64 * l as u64).sum()
 }
 
+/// A settling that was followed to its end.
+pub struct Watched {
+    pub after: Sheet,
+    pub answer: Settled,
+    /// How many batches moved and are where they were.
+    pub returned: usize,
+}
+
 /// Settle move by move, each chosen again from the rule, and compare.
-pub fn settle_laws(sheet: &Sheet) -> (Sheet, u64) {
+pub fn settle_laws(sheet: &Sheet) -> Watched {
     let start = squares(sheet);
     let mut now = sheet.clone();
     let mut moves = 0;
+    let mut moved = BTreeSet::new();
     loop {
         let loads = loads(&now, &now.places());
         let gaining = gaining(&now);
@@ -58,22 +69,34 @@ pub fn settle_laws(sheet: &Sheet) -> (Sheet, u64) {
         let before = squares(&now);
         now.shift(i as u64 + 1, *to as u64).unwrap();
         moves += 1;
+        moved.insert(i);
         assert!(squares(&now) + 2 <= before);
     }
     assert!(2 * moves <= start - squares(&now));
     assert!(now.finish() <= sheet.finish());
     assert!(permitted(sheet, &now.places()));
     assert_eq!(moves == 0, gaining(sheet).is_empty());
-    let mut settled = sheet.clone();
-    assert_eq!(settle(&mut settled), moves);
-    assert_eq!(settled, now);
-    (now, moves)
+    let entries = sheet.batches().len() as u64;
+    let mut after = sheet.clone();
+    if entries > 0 {
+        assert_eq!(settle(&mut after, entries - 1), Err(Refusal::Buffer));
+        assert_eq!(&after, sheet);
+    }
+    let answer = settle(&mut after, entries).unwrap();
+    assert_eq!((answer.moves, answer.finish), (moves, now.finish()));
+    assert_eq!(after, now);
+    record_laws(sheet, &after, &answer.records);
+    Watched {
+        after,
+        returned: moved.len() - answer.records.len(),
+        answer,
+    }
 }
 
 #[test]
 fn sheets_of_every_size() {
     let mut rng = Rng::new(51);
-    let (mut moves, mut most) = (0, 0);
+    let (mut moves, mut most, mut records, mut returned) = (0, 0, 0, 0);
     for round in 0..20_000 {
         let sheet = match round {
             0..600 => gen::sheet(&mut rng, *[gen::FULL, gen::LARGE].get(round % 2).unwrap()),
@@ -82,12 +105,15 @@ fn sheets_of_every_size() {
             _ => gen::sheet(&mut rng, gen::SMALL),
         };
         review_laws(&sheet);
-        let (settled, made) = settle_laws(&sheet);
-        review_laws(&settled);
-        moves += made;
-        most = most.max(made);
+        let watched = settle_laws(&sheet);
+        review_laws(&watched.after);
+        moves += watched.answer.moves;
+        most = most.max(watched.answer.moves);
+        records += watched.answer.records.len();
+        returned += watched.returned;
     }
     assert!(moves > 20_000 && most > 100, "{moves} {most}");
+    assert!(records > 20_000 && returned > 100, "{records} {returned}");
 }
 
 #[test]

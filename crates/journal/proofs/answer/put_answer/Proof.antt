@@ -4,14 +4,14 @@ use borrow.Author.Needs.{needs}
 use Rattle.journal.proofs.answer.put_answer.Statement.{statement}
 use Rattle.journal.proofs.answer.put_answer.Tie as tie
 
-put-plan-requires : tie.Need-put-plan-requires
-put-plan-requires c κs = rw (c .before .if1 .taken) at (c .before .before .before .before .pre)
+put-settle-requires : tie.Need-put-settle-requires
+put-settle-requires c κs = rw (c .before .if1 .taken) at (c .before .before .before .before .pre)
 
 same-length : tie.Need-same-length
 same-length c = search needs
 
 returns : tie.Need-returns
-returns c = rw (c .before .before .before .before .if1 .taken) (c .before .before .put-plan .ensures)
+returns c = rw (c .before .before .before .before .if1 .taken) (c .before .before .put-settle .ensures)
 
 put-line-requires : tie.Need-put-line-requires
 put-line-requires c κs =
@@ -27,4 +27,4 @@ returns-2 c = rw (c .before .before .before .before .if1 .left) (c .before .befo
 pub put-answer-spec : {M : Type 1} → statement M
 put-answer-spec =
     tie.close
-    (tie.spec put-plan-requires same-length returns put-line-requires same-length-2 returns-2)
+    (tie.spec put-settle-requires same-length returns put-line-requires same-length-2 returns-2)

@@ -4,8 +4,8 @@ use native.Mathlib.Omega.{arith}
 use Rattle.sheet.specs.Represent.{bookOf}
 use Rattle.sheet.proofs.SoundViews.{view-instruments, view-batches}
 use Rattle.journal.specs.Answering.{madeOf}
-use Rattle.journal.proofs.Said.{said-review, said-trial, said-plan, said-edit}
-use Rattle.journal.proofs.Replies.{made-edit, made-review, made-trial, made-plan, review-long, trial-long, plan-long}
+use Rattle.journal.proofs.Said.{said-review, said-trial, said-balance, said-settle, said-edit}
+use Rattle.journal.proofs.Replies.{made-edit, made-review, made-trial, review-long, trial-long}
 use borrow.Author.Needs.{needs}
 use Rattle.journal.proofs.call.make.Statement.{statement}
 use Rattle.journal.proofs.call.make.Tie as tie
@@ -48,17 +48,27 @@ returns-2 c =
     ∙ made-trial (c .before .before .before .before .before .args .sheet) (c .before .before .before .before .before .pre .0) (c .before .before .before .before .before .args .e .a) _ _ (c .before .trial .ensures) (c .before .before .batches .ensures)
     ∙ ap (madeOf (bookOf (c .before .before .before .before .before .args .sheet))) (said-trial (c .before .before .before .before .before .args .e) (c .before .before .before .if2 .taken))
 
-plan-requires : tie.Need-plan-requires
-plan-requires c κs = search needs
+cast-of-balance : tie.Need-cast-of-balance
+cast-of-balance c = search needs
 
-of-plan-requires : tie.Need-of-plan-requires
-of-plan-requires c κs = plan-long (c .before .before .before .before .before .args .sheet) (c .before .before .before .before .before .pre .0) _ (c .before .plan .ensures .is)
+of-balance-requires : tie.Need-of-balance-requires
+of-balance-requires c κs = search needs
 
 returns-3 : tie.Need-returns-3
 returns-3 c =
-    c .of-plan .ensures
-    ∙ made-plan (c .before .before .before .before .before .before .args .sheet) (c .before .before .before .before .before .before .pre .0) _ (c .before .before .plan .ensures)
-    ∙ ap (madeOf (bookOf (c .before .before .before .before .before .before .args .sheet))) (said-plan (c .before .before .before .before .before .before .args .e) (c .before .before .before .if3 .taken))
+    c .of-balance .ensures
+    ∙ ap (madeOf (bookOf (c .before .before .before .before .before .args .sheet))) (said-balance (c .before .before .before .before .before .args .e) (c .before .before .if3 .taken))
+
+cast-of-settle : tie.Need-cast-of-settle
+cast-of-settle c = search needs
+
+of-settle-requires : tie.Need-of-settle-requires
+of-settle-requires c κs = search needs
+
+returns-4 : tie.Need-returns-4
+returns-4 c =
+    c .of-settle .ensures
+    ∙ ap (madeOf (bookOf (c .before .before .before .before .before .before .args .sheet))) (said-settle (c .before .before .before .before .before .before .args .e) (c .before .before .if4 .taken))
 
 edited-requires : tie.Need-edited-requires
 edited-requires c κs = search needs
@@ -66,11 +76,12 @@ edited-requires c κs = search needs
 of-edit-requires : tie.Need-of-edit-requires
 of-edit-requires c κs = search needs
 
-returns-4 : tie.Need-returns-4
-returns-4 c =
+returns-5 : tie.Need-returns-5
+returns-5 c =
     c .of-edit .ensures
-    ∙ made-edit (c .before .before .before .before .before .args .sheet) (c .before .before .before .before .before .pre .0) _ _ (c .before .edited .ensures)
-    ∙ ap (madeOf (bookOf (c .before .before .before .before .before .args .sheet))) (said-edit (c .before .before .before .before .before .args .e) (c .before .before .before .before .if1 .left) (c .before .before .before .if2 .left) (c .before .before .if3 .left))
+    ∙ made-edit (c .before .before .before .before .before .before .args .sheet) (c .before .before .before .before .before .before .pre .0) _ _ (c .before .edited .ensures)
+    ∙ ap (madeOf (bookOf (c .before .before .before .before .before .before .args .sheet)))
+    (said-edit (c .before .before .before .before .before .before .args .e) (c .before .before .before .before .before .if1 .left) (c .before .before .before .before .if2 .left) (c .before .before .before .if3 .left) (c .before .before .if4 .left))
 
 pub make-spec : {M : Type 1} → statement M
 make-spec =
@@ -84,9 +95,12 @@ make-spec =
     trial-requires
     of-trial-requires
     returns-2
-    plan-requires
-    of-plan-requires
+    cast-of-balance
+    of-balance-requires
     returns-3
+    cast-of-settle
+    of-settle-requires
+    returns-4
     edited-requires
     of-edit-requires
-    returns-4)
+    returns-5)

@@ -5,7 +5,7 @@ use borrow.Author.Tests.{eq-eqb, ne-eqb}
 use lib.ListN.{length, drop}
 use Rattle.rules.specs.Journal.{callAt}
 use Rattle.fields.proofs.Reading.{next-at}
-use Rattle.journal.proofs.Calls.{add-entry, withdraw-entry, requalify-entry, move-entry, trial-entry}
+use Rattle.journal.proofs.Calls.{add-entry, withdraw-entry, requalify-entry, move-entry, trial-entry, balance-entry, settle-entry}
 use Rattle.journal.proofs.entry.call_at.Statement.{statement}
 use Rattle.journal.proofs.entry.call_at.Tie as tie
 
@@ -69,23 +69,33 @@ returns-6 c =
     let r = drop (c .before .before .before .before .before .before .before .before .args .at) s in
     rw (ne-eqb _ 1 (c .before .before .before .before .before .before .if1 .left), ne-eqb _ 2 (c .before .before .before .before .before .if2 .left), ne-eqb _ 3 (c .before .before .before .before .if3 .left), ne-eqb _ 4 (c .before .before .before .if4 .left), ne-eqb _ 5 (c .before .before .if5 .left), eq-eqb _ 6 (c .before .if6 .taken)) (c .one-number2 .ensures ∙ trial-entry (length s) r)
 
-plain-requires-2 : tie.Need-plain-requires-2
-plain-requires-2 c κs = search needs
+one-number-requires-3 : tie.Need-one-number-requires-3
+one-number-requires-3 c κs = search needs
 
 returns-7 : tie.Need-returns-7
 unfolding callAt
 returns-7 c =
     let s = c .before .before .before .before .before .before .before .before .before .args .s .now in
-    let at = c .before .before .before .before .before .before .before .before .before .args .at in
-    rw (ne-eqb _ 1 (c .before .before .before .before .before .before .before .if1 .left), ne-eqb _ 2 (c .before .before .before .before .before .before .if2 .left), ne-eqb _ 3 (c .before .before .before .before .before .if3 .left), ne-eqb _ 4 (c .before .before .before .before .if4 .left), ne-eqb _ 5 (c .before .before .before .if5 .left), ne-eqb _ 6 (c .before .before .if6 .left), eq-eqb _ 7 (c .before .if7 .taken), ← next-at s at (c .before .before .before .before .before .before .before .before .before .pre)) (c .plain2 .ensures)
+    let r = drop (c .before .before .before .before .before .before .before .before .before .args .at) s in
+    rw (ne-eqb _ 1 (c .before .before .before .before .before .before .before .if1 .left), ne-eqb _ 2 (c .before .before .before .before .before .before .if2 .left), ne-eqb _ 3 (c .before .before .before .before .before .if3 .left), ne-eqb _ 4 (c .before .before .before .before .if4 .left), ne-eqb _ 5 (c .before .before .before .if5 .left), ne-eqb _ 6 (c .before .before .if6 .left), eq-eqb _ 7 (c .before .if7 .taken)) (c .one-number3 .ensures ∙ balance-entry (length s) r)
 
-none-requires : tie.Need-none-requires
-none-requires c κs = search needs
+one-number-requires-4 : tie.Need-one-number-requires-4
+one-number-requires-4 c κs = search needs
 
 returns-8 : tie.Need-returns-8
 unfolding callAt
 returns-8 c =
-    rw (ne-eqb _ 1 (c .before .before .before .before .before .before .before .if1 .left), ne-eqb _ 2 (c .before .before .before .before .before .before .if2 .left), ne-eqb _ 3 (c .before .before .before .before .before .if3 .left), ne-eqb _ 4 (c .before .before .before .before .if4 .left), ne-eqb _ 5 (c .before .before .before .if5 .left), ne-eqb _ 6 (c .before .before .if6 .left), ne-eqb _ 7 (c .before .if7 .left)) (c .none .ensures)
+    let s = c .before .before .before .before .before .before .before .before .before .before .args .s .now in
+    let r = drop (c .before .before .before .before .before .before .before .before .before .before .args .at) s in
+    rw (ne-eqb _ 1 (c .before .before .before .before .before .before .before .before .if1 .left), ne-eqb _ 2 (c .before .before .before .before .before .before .before .if2 .left), ne-eqb _ 3 (c .before .before .before .before .before .before .if3 .left), ne-eqb _ 4 (c .before .before .before .before .before .if4 .left), ne-eqb _ 5 (c .before .before .before .before .if5 .left), ne-eqb _ 6 (c .before .before .before .if6 .left), ne-eqb _ 7 (c .before .before .if7 .left), eq-eqb _ 8 (c .before .if8 .taken)) (c .one-number4 .ensures ∙ settle-entry (length s) r)
+
+none-requires : tie.Need-none-requires
+none-requires c κs = search needs
+
+returns-9 : tie.Need-returns-9
+unfolding callAt
+returns-9 c =
+    rw (ne-eqb _ 1 (c .before .before .before .before .before .before .before .before .if1 .left), ne-eqb _ 2 (c .before .before .before .before .before .before .before .if2 .left), ne-eqb _ 3 (c .before .before .before .before .before .before .if3 .left), ne-eqb _ 4 (c .before .before .before .before .before .if4 .left), ne-eqb _ 5 (c .before .before .before .before .if5 .left), ne-eqb _ 6 (c .before .before .before .if6 .left), ne-eqb _ 7 (c .before .before .if7 .left), ne-eqb _ 8 (c .before .if8 .left)) (c .none .ensures)
 
 pub call-at-spec : {M : Type 1} → statement M
 call-at-spec =
@@ -103,7 +113,9 @@ call-at-spec =
     returns-5
     one-number-requires-2
     returns-6
-    plain-requires-2
+    one-number-requires-3
     returns-7
+    one-number-requires-4
+    returns-8
     none-requires
-    returns-8)
+    returns-9)

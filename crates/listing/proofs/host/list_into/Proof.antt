@@ -11,7 +11,7 @@ use Rattle.listing.proofs.host.list_into.Tie as tie
 -- what is planned
 planned : (c : tie.After-batches)
     → ListedPlan (c .before .before .before .args .sheet) (c .before .before .before .pre) (c .before .plan .result) (c .batches .result)
-planned c = listed-plan _ (c .before .before .before .pre) _ _ (c .before .plan .ensures .is) (c .batches .ensures)
+planned c = listed-plan _ (c .before .before .before .pre) _ _ (c .before .plan .ensures) (c .batches .ensures)
 
 plan-requires : tie.Need-plan-requires
 plan-requires c κs = search needs

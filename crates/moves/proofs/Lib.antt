@@ -1,0 +1,5 @@
+pub mod Filled
+pub mod Data
+pub mod CallFill
+pub mod Thin
+pub mod ThinBytes
