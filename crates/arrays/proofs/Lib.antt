@@ -2,6 +2,7 @@ pub mod Bits
 pub mod Entries
 pub mod Filling
 pub mod Kept
+pub mod Lengths
 pub mod Loads
 pub mod Masks
 pub mod Members

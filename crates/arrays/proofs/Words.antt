@@ -4,15 +4,15 @@ use mathlib.Core.Path.{_≡_, sym, ap, ap₂, _∙_}
 use mathlib.Core.Bool.{Bool, false}
 use native.Mathlib.Nat.{mod-eq-of-lt, one-mul}
 use native.Mathlib.Omega.{arith}
-use lib.Bits.{bitAnd, bitOr, or-lt}
+use lib.Bits.{bitOr, or-lt}
 use lib.Pow.{pow-lt}
 use lib.Dec.{eqb}
 use borrow.Author.Tests.{eqb-true, eqb-false, eq-eqb, ne-eqb}
-use Rattle.rules.specs.Fold.{_and_, _or_}
+use Rattle.rules.specs.Fold.{_or_}
 use Rattle.theory.proofs.Logic.{byTest}
 use Rattle.theory.proofs.View.{None}
 use Rattle.arrays.specs.Sets.{has, SetOf}
-use Rattle.arrays.proofs.Bits.{bit, bit-shift, bit-and, bit-or, bit-zero, bit-power, bits-none}
+use Rattle.arrays.proofs.Bits.{bit, bit-shift, bit-or, bit-zero, bit-power, bits-none}
 
 pub has-bit : (x i : ℕ) → has x i ≡ bit x (i - 1)
 unfolding has
@@ -22,9 +22,6 @@ pub has-suc : (x k : ℕ) → has x (suc k) ≡ bit x k
 has-suc x k = has-bit x (suc k) ∙ (let e : suc k - 1 ≡ k = omega arith in rw e)
 
 -- ---- the operations
-
-pub has-and : (x y i : ℕ) → has (bitAnd x y) i ≡ has x i and has y i
-has-and x y i = has-bit (bitAnd x y) i ∙ bit-and x y (i - 1) ∙ ap₂ _and_ (sym (has-bit x i)) (sym (has-bit y i))
 
 pub has-or : (x y i : ℕ) → has (bitOr x y) i ≡ has x i or has y i
 has-or x y i = has-bit (bitOr x y) i ∙ bit-or x y (i - 1) ∙ ap₂ _or_ (sym (has-bit x i)) (sym (has-bit y i))

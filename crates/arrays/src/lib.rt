@@ -1,4 +1,4 @@
-// Sums over plain arrays, and sets of machines in words.
+// Sums and the greatest over plain arrays, and sets of machines in words.
 pub mod scan;
 pub mod sets;
 

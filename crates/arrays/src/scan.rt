@@ -1,9 +1,40 @@
-// The loads of machines, and the most of them, on lent arrays.
+// The minutes of jobs and the loads of machines, and the most of them, on lent arrays.
 ghost use mathlib.Core.Path.{_≡_};
 ghost use Prim.Native.Nat.{ℕ, _<_, _≤_};
 ghost use lib.ListN.{length};
 ghost use lib.Dec.{eqb};
 ghost use Rattle.rules.specs.Fold.{pick, at, maxTo, sumTo};
+
+// The minutes of the first n jobs.
+pub fn total_of(minutes: &[u16], n: usize) -> u32
+    requires { ⌜ (n ≤ 200) × (n ≤ length (now minutes)) ⌝ }
+    ensures { λ r. ⌜ r ≡ sumTo n (λ b. at (now (minutes .entry)) b) ⌝ }
+{
+    let mut sum: u32 = 0;
+    let mut b: usize = 0;
+    while b < n {
+        sum += minutes[b] as u32;
+        b += 1;
+    }
+    sum
+}
+
+// The longest of the first n jobs' lengths.
+pub fn longest_of(minutes: &[u16], n: usize) -> u32
+    requires { ⌜ n ≤ length (now minutes) ⌝ }
+    ensures { λ r. ⌜ r ≡ maxTo n (λ b. at (now (minutes .entry)) b) ⌝ }
+{
+    let mut longest: u32 = 0;
+    let mut b: usize = 0;
+    while b < n {
+        let x = minutes[b] as u32;
+        if longest < x {
+            longest = x;
+        }
+        b += 1;
+    }
+    longest
+}
 
 // The most load of a machine.
 pub fn largest_load(loads: &[u32], m: usize) -> u32

@@ -18,9 +18,10 @@ use Rattle.sheet.specs.declared.Sheet.{Sheet}
 use Rattle.sheet.specs.Represent.{padded, bookOf, Sound}
 use Rattle.sheet.specs.View.{marks}
 use Rattle.sheet.proofs.Padded.{set-append}
-use Rattle.sheet.proofs.SoundViews.{view-instruments, view-batches, view-valid, view-small, view-taken, minutes-at, marks-at}
+use Rattle.sheet.proofs.SoundViews.{view-instruments, view-batches, view-valid, view-small, view-taken, minutes-at, marks-row, marks-at}
 use Rattle.arrays.specs.Sets.{has, SetsOf}
 use Rattle.rules.specs.Sheet.{Book}
+use Rattle.scans.specs.Marks.{Marked}
 use Rattle.arrays.specs.Reads.{Reads}
 use Rattle.planner.specs.declared.Reviewed.{Reviewed}
 use Rattle.planner.specs.declared.laid.Laid.{Laid}
@@ -88,6 +89,10 @@ module _ (s : Sheet) (v : Sound s) {m c : ℕ} {lengths flags sets : List ℕ}
     small = view-small s v;
     valid = view-valid s v;
   }
+
+-- the marks of its lists
+pub view-marked : (I : Instance) (c : ℕ) (flags : List ℕ) → n I ≡ c → flags ≡ marks I → Marked I c flags
+view-marked I c flags e h b l = rw h (marks-row I b (omega arith))
 
 -- its placement
 pub view-place : (s : Sheet) → Sound s → {c : ℕ} {x : List ℕ} → c ≡ n (instance (bookOf s)) → x ≡ padded 200 (places (bookOf s))

@@ -13,9 +13,9 @@ use crate::drawn::draw;
 use crate::drawn::rest;
 use crate::laid::lay;
 use arrays::scan::largest_load;
-use scans::group::longest_of;
+use arrays::scan::longest_of;
+use arrays::scan::total_of;
 use scans::group::members_of;
-use scans::group::total_of;
 use settling::improve::first_improving;
 use sheet::Refusal;
 use sheet::Sheet;
@@ -62,7 +62,7 @@ pub fn trial(sheet: Sheet, level: u32) -> Tried
     let a = lay(sheet);
     let minutes = a.minutes;
     let masks = a.masks;
-    if total_of(&minutes, &masks, a.n, a.m) < level {
+    if total_of(&minutes, a.n) < level {
         return Tried {
             refusal: Refusal::LevelAbove,
             passed: false,
@@ -75,7 +75,7 @@ pub fn trial(sheet: Sheet, level: u32) -> Tried
     }
     let places = a.places;
     let loads = a.loads;
-    let limit = level + longest_of(&minutes, &masks, a.n, a.m);
+    let limit = level + longest_of(&minutes, a.n);
     let t = try_level(places, loads, &minutes, &masks, a.m, a.n, level, limit);
     if t.passed {
         let kept = t.places;
@@ -113,7 +113,8 @@ pub fn balance(sheet: Sheet) -> Balanced
     let masks = a.masks;
     let places = a.places;
     let loads = a.loads;
-    let d = draw(places, loads, &minutes, &masks, a.m, a.n);
+    let marks = sheet.eligibility();
+    let d = draw(places, loads, &minutes, &masks, &marks, a.m, a.n);
     let list = d.group;
     let end = d.places;
     let after = sheet.with_places(end);

@@ -1,5 +1,5 @@
 -- Document 01, "Cases": P1 to P10 in one table, with one theorem over it. The rows from 11 on are more of document 01's cases
--- and ours: each tells a wrong rule from the right one. Rows 20 to 23 are C-11 to C-14 of
+-- and ours: each tells a wrong rule from the right one. Rows 20 to 24 are C-11 to C-15 of
 -- document 02.
 use Prim.Native.Nat.{ℕ}
 use Prim.Native.String.{String}
@@ -22,6 +22,7 @@ use Rattle.rules.specs.Trial.{atLevel, underloaded, overloaded, unplaced
 use Rattle.rules.specs.Group.{overflows, reach, reachBy, closure, group, passed, failed, trial}
 use Rattle.rules.specs.Balance.{searchBy, balance}
 use Rattle.rules.specs.LowerBound.{within, confined, share, lowerBound}
+use Rattle.rules.specs.Marks.{marksOf}
 use Rattle.rules.specs.Round.{multiples, equalLengths, closeTo}
 use Rattle.rules.specs.Plan as P
 use Rattle.rules.specs.Moves.{Move, records, moveNumbers}
@@ -190,6 +191,8 @@ data Ask : Type 0 where
   calling : List ℕ → List Call → Ask
   -- a file balanced, beside another plan of it, for a number g
   comparing : List ℕ → ℕ → Assignment → Ask
+  -- a list, beside a group
+  confining : List ℕ → List ℕ → Ask
 
 -- the lengths are multiples of g, and all equal; the other plan is permitted; balance's finish and the other's; the bound for g holds
 record Comparison : Type 0 where
@@ -210,6 +213,8 @@ data Said : Type 0 where
   filedSaid : Filed → Said
   answered : List Answer → Said
   compared : Comparison → Said
+  -- the list's marks, and whether it lies in the group
+  lies : List ℕ → Bool → Said
   noSheet : Said
 
 abbrev callsOn : Reading → List Call → Said
@@ -246,6 +251,7 @@ say (leaving s c b) = hosted (writeHost s c b)
 say (filing s c b) = filedSaid (filed s c b)
 say (calling s cs) = callsOn (read s) cs
 say (comparing s g y) = comparedOn (read s) g y
+say (confining l g) = lies (marksOf l) (within l g)
 
 -- a row: the case's number in document 01, what is asked, and what is to be said
 record Row : Type 0 where
@@ -508,6 +514,12 @@ table =
     (filedSaid (record { hosted = record { refusal = 9; line = 0; length = 0; buffer = replicate 99 1 }; answer = refused bufferShort }))
     ∷ row 23 (filing [] (balancing 0) [])
     (filedSaid (record { hosted = record { refusal = 1; line = 1; length = 0; buffer = [] }; answer = refused malformed }))
+    -- a list's marks, and whether it lies in a group: it does, all but its last instrument does, nothing is listed
+    ∷ row 24 (confining (24 ∷ 4 ∷ 5 ∷ []) (4 ∷ 5 ∷ 6 ∷ 24 ∷ []))
+    (lies (0 ∷ 0 ∷ 0 ∷ 1 ∷ 1 ∷ 0 ∷ 0 ∷ 0 ∷ 0 ∷ 0 ∷ 0 ∷ 0 ∷ 0 ∷ 0 ∷ 0 ∷ 0 ∷ 0 ∷ 0 ∷ 0 ∷ 0 ∷ 0 ∷ 0 ∷ 0 ∷ 1 ∷ []) true)
+    ∷ row 24 (confining (4 ∷ 24 ∷ []) (4 ∷ 5 ∷ 6 ∷ []))
+    (lies (0 ∷ 0 ∷ 0 ∷ 1 ∷ 0 ∷ 0 ∷ 0 ∷ 0 ∷ 0 ∷ 0 ∷ 0 ∷ 0 ∷ 0 ∷ 0 ∷ 0 ∷ 0 ∷ 0 ∷ 0 ∷ 0 ∷ 0 ∷ 0 ∷ 0 ∷ 0 ∷ 1 ∷ []) false)
+    ∷ row 24 (confining [] []) (lies (replicate 24 0) true)
     ∷ []
 
 abbrev asked : List Row → List Said
@@ -518,5 +530,5 @@ said t = map (λ (r : Row). r .says) t
 
 -- the rules say what the table says
 cases : asked table ≡ said table
-unfolding table bytes lines _and_ _or_ mem every sumTo most maxTo orElse firstTo anyTo allTo lesser leastTo greater greatestTo thoseTo listTo isBatch goodInstruments goodMinutes isInstrument distinct goodList goodBatch sound digits loneZero blanks field numberAt placeAt endOfLine headLine instrumentsAt batchLine batchLines read columns fields renderBatches render written openInBatches openColumns alike batchWithinLimits withinLimits kept edit load makespan longest total permitted elsewhere improvesAt improves review mover target moved squares settleBy settle atLevel underloaded overloaded unplaced machineArc jobArc liftOver pushOr deed jobDeed machineDeed someUnderloaded actMachine actJob act stepsBy liftBound pushBound endedBy overflows reach reachBy closure group trial searchBy balance within confined share lowerBound multiples equalLengths closeTo P.balanced P.rested P.plan records moveNumbers answer next bookAfter answers intoBuffer batchListing listing program host numbersAt listAt addAt withdrawAt requalifyAt moveAt trialAt balanceAt settleAt callAt callLine linesBy journal answerLines runHost writeHost filed
+unfolding table bytes lines _and_ _or_ mem every sumTo most maxTo orElse firstTo anyTo allTo lesser leastTo greater greatestTo thoseTo listTo isBatch goodInstruments goodMinutes isInstrument distinct goodList goodBatch sound digits loneZero blanks field numberAt placeAt endOfLine headLine instrumentsAt batchLine batchLines read columns fields renderBatches render written openInBatches openColumns alike batchWithinLimits withinLimits kept edit load makespan longest total permitted elsewhere improvesAt improves review mover target moved squares settleBy settle atLevel underloaded overloaded unplaced machineArc jobArc liftOver pushOr deed jobDeed machineDeed someUnderloaded actMachine actJob act stepsBy liftBound pushBound endedBy overflows reach reachBy closure group trial searchBy balance within confined share lowerBound marksOf multiples equalLengths closeTo P.balanced P.rested P.plan records moveNumbers answer next bookAfter answers intoBuffer batchListing listing program host numbersAt listAt addAt withdrawAt requalifyAt moveAt trialAt balanceAt settleAt callAt callLine linesBy journal answerLines runHost writeHost filed
 cases = refl

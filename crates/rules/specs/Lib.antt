@@ -7,7 +7,7 @@
 --   Runs               Run
 --   The listing        Lent, Listing
 --   Cases              Cases, and Text, in which its files are written
--- Journal, calls and answers as texts, is not in document 01. Round, Rewrite and Moves are document 02's C-12, C-13 and C-14; Filed has
+-- Journal, calls and answers as texts, is not in document 01. Round, Rewrite, Moves and Marks are document 02's C-12 to C-15; Filed has
 -- C-14's two calls for hosts that keep their sheet as a file.
 -- Fold has the lists by number and the folds over 1 to k that all of them use.
 pub mod Fold
@@ -25,6 +25,7 @@ pub mod Trial
 pub mod Group
 pub mod Balance
 pub mod LowerBound
+pub mod Marks
 pub mod Round
 pub mod Plan
 pub mod Moves

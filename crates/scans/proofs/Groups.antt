@@ -58,7 +58,7 @@ all-set m h = rw (all-word m h) record {
 }
 
 -- the list of all machines names exactly 1 to m
-pub all-mem : (m i : ℕ) → 0 < i → mem i (thoseTo m (λ j. true)) ≡ leb i m
+all-mem : (m i : ℕ) → 0 < i → mem i (thoseTo m (λ j. true)) ≡ leb i m
 all-mem m i i0 =
     byTest (leb i m)
     (λ t. those-mem m (λ j. true) i i0 (leb-true _ _ t) ∙ sym t)

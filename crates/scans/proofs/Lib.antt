@@ -1,3 +1,4 @@
 pub mod Groups
+pub mod MarkWords
 pub mod Reaching
 pub mod Within

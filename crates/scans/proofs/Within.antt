@@ -1,124 +1,55 @@
--- Jobs whose machines all lie in a group, by words.
-use Prim.Native.Nat.{ℕ, _-_, _^_, _≤_, _<_}
-use mathlib.Core.Path.{_≡_, refl, sym, ap, ap₂, _∙_}
-use mathlib.Core.Bool.{Bool, true, false, not}
+-- The minutes confined to a group, job after job by their marks, and the bound that the group shows.
+use Prim.Native.Nat.{ℕ, suc, _+_, _*_, _<_}
+use mathlib.Core.Path.{_≡_, refl, sym, ap₂, _∙_}
+use mathlib.Core.Bool.{Bool, true, false}
 use mathlib.Core.List.{List, [], _∷_}
-use native.Mathlib.Nat.{lt-of-le-of-lt}
 use native.Mathlib.Omega.{arith}
-use lib.Bits.{bitAnd, and-le-l}
-use lib.ListN.{length}
-use lib.Dec.{eqb, leb}
-use borrow.Author.Tests.{eqb-true, eqb-false, le-leb}
-use Rattle.rules.specs.Fold.{_and_, _or_, pick, at, mem, most, sumTo, maxTo, thoseTo}
-use Rattle.rules.specs.Instance.{Instance, minutesOf, listOf}
-use Rattle.rules.specs.Load.{longest, total}
+use lib.ListN.{length, getD, take, drop}
+use borrow.Author.Tests.{le-leb}
+use Rattle.rules.specs.Fold.{pick, most, every, sumTo}
+use Rattle.rules.specs.Sheet.{isInstrument}
+use Rattle.rules.specs.Instance.{Instance, n, minutesOf, listOf}
+use Rattle.rules.specs.Load.{longest}
 use Rattle.rules.specs.LowerBound.{within, confined, ceilDiv, share, lowerBound}
-use Rattle.theory.proofs.Logic.{byTest, conflict, or-left, or-right, or-cases}
-use Rattle.theory.proofs.Fold.{sumTo-ext, maxTo-ext}
-use Rattle.theory.proofs.View.{all-at, all-mk}
-use Rattle.theory.proofs.Member.{every-mem, every-mk}
-use Rattle.arrays.specs.Sets.{has, SetOf}
+use Rattle.rules.specs.Marks.{marksOf}
+use Rattle.theory.proofs.Logic.{and-mk}
+use Rattle.theory.proofs.Member.{every-mk}
 use Rattle.arrays.specs.Reads.{Reads}
-use Rattle.scans.specs.Grouping.{inside}
-use Rattle.arrays.proofs.Bits.{bit-not}
-use Rattle.arrays.proofs.Words.{has-bit, has-and, set-zero, empty-zero}
-use Rattle.arrays.proofs.Masks.{set-same}
-use Rattle.scans.proofs.Groups.{all-mem}
+use Rattle.scans.specs.Marks.{LiesWithin, Marked}
 
--- two tests that pass together
-same-test : (a b : Bool) → (a ≡ true → b ≡ true) → (b ≡ true → a ≡ true) → a ≡ b
-same-test true b f g = sym (f refl)
-same-test false true f g = g refl
-same-test false false f g = refl
+-- ---- confined minutes
 
--- ---- the word of what lies outside
+-- a job counts, or does not
+pub counts : {t : Bool} (s x : ℕ) → t ≡ true → s + x ≡ s + pick t x 0
+counts s x e = rw e
 
-has-not : (y i : ℕ) → y < 2 ^ 32 → 0 < i → i ≤ 24 → has (4294967295 - y) i ≡ not (has y i)
-has-not y i h l u = has-bit (4294967295 - y) i ∙ bit-not 32 y (i - 1) h (omega arith) ∙ ap not (sym (has-bit y i))
+pub skips : {t : Bool} (s x : ℕ) → t ≡ false → s ≡ s + pick t x 0
+skips s x e = rw e (omega arith)
 
-has-outside : (x y i : ℕ) → y < 2 ^ 32 → 0 < i → i ≤ 24 → has (bitAnd x (4294967295 - y)) i ≡ has x i and not (has y i)
-has-outside x y i h l u = has-and x (4294967295 - y) i ∙ ap (λ (t : Bool). has x i and t) (has-not y i h l u)
+module _ (I : Instance) (list : List ℕ) where
+  -- those of the first b jobs
+  unfoldable pub confinedTo : ℕ → ℕ
+  confinedTo b = sumTo b (λ k. pick (within (listOf I k) list) (minutesOf I k) 0)
 
-implies : (a b : Bool) → a and not b ≡ false → not a or b ≡ true
-unfolding _and_ _or_
-implies true true e = refl
-implies true false e = sym e
-implies false b e = refl
+  -- all of them
+  pub confined-is : {c : ℕ} → n I ≡ c → confinedTo c ≡ confined I list
+  unfolding confinedTo confined
+  confined-is e = rw e
 
-refutes : (a b : Bool) → not a or b ≡ true → a and not b ≡ false
-unfolding _and_ _or_
-refutes true true e = refl
-refutes true false e = sym e
-refutes false b e = refl
+module _ {I : Instance} {m c : ℕ} {lengths sets : List ℕ} (r : Reads I m c lengths sets) (marks : List ℕ) (w : Marked I c marks) (list : List ℕ)
+    {group : List ℕ} (e : group ≡ marksOf list) where
+  few : (b : ℕ) → every (isInstrument 24) (listOf I b) ≡ true
+  unfolding isInstrument
+  few b =
+      every-mk (isInstrument 24) (listOf I b)
+      (λ i t. let z = r .valid .ranged b i t in
+      and-mk _ _ (le-leb 1 i (z .0)) (le-leb i 24 (omega (arith, r .machines, r .few))))
 
--- none lies outside
-pub inside-word : (x y : ℕ) → x < 2 ^ 24 → y < 2 ^ 32 → eqb (bitAnd x (4294967295 - y)) 0 ≡ inside x y
-unfolding inside
-inside-word x y h k =
-    same-test _ _
-    (λ t. all-mk 24 _ (λ i l u. implies (has x i) (has y i) (sym (has-outside x y i k l u) ∙ set-zero _ (eqb-true _ 0 t) i)))
-    (λ t. byTest (eqb (bitAnd x (4294967295 - y)) 0) (λ e. e)
-    (λ e. absurd (eqb-false _ 0 e (empty-zero _ (lt-of-le-of-lt (and-le-l x _) h)
-    (λ i l u. has-outside x y i k l u ∙ refutes (has x i) (has y i) (all-at 24 _ i l u t))))))
-
--- ---- the rules' within
-
-module _ {I : Instance} {m c : ℕ} {lengths sets : List ℕ} (r : Reads I m c lengths sets) (list : List ℕ) (group : ℕ)
-    (s : SetOf (λ i. mem i list) group) where
-  pub inside-within : (b : ℕ) → 0 < b → b ≤ c → inside (at sets b) group ≡ within (listOf I b) list
-  unfolding inside within
-  inside-within b p q =
-      same-test _ _
-      (λ t. every-mk (λ i. mem i list) (listOf I b) (λ i e.
-      let w = r .valid .ranged b i e in
-      let z = r .machines in
-      let f = r .few in
-      let u : i ≤ 24 = omega arith in
-      sym (s .each i (w .0) u) ∙ modus (has (at sets b) i) _ (r .masks b i p q (w .0) u ∙ e) (all-at 24 _ i (w .0) u t)))
-      (λ t. all-mk 24 _ (λ i l u.
-      arrow (has (at sets b) i) (has group i) (λ e.
-      s .each i l u ∙ every-mem (λ i. mem i list) (listOf I b) i t (sym (r .masks b i p q l u) ∙ e))))
-    where
-      modus : (a d : Bool) → a ≡ true → not a or d ≡ true → d ≡ true
-      modus a d e h = or-cases (not a) d h (λ t. conflict t (rw e)) (λ t. t)
-
-      arrow : (a d : Bool) → (a ≡ true → d ≡ true) → not a or d ≡ true
-      arrow true d h = or-right (not true) d (h refl)
-      arrow false d h = or-left (not false) d refl
-
-  pub confined-is : confined I list ≡ sumTo c (λ b. pick (inside (at sets b) group) (at lengths b) 0)
-  unfolding confined
-  confined-is =
-      ap (λ (k : ℕ). sumTo k (λ b. pick (within (listOf I b) list) (minutesOf I b) 0)) (r .jobs)
-      ∙ sumTo-ext c _ _ (λ b p q. sym (rw (inside-within b p q, r .minutes b p q)))
-
--- ---- all machines: every job's lie within them
-
-module _ {I : Instance} {m c : ℕ} {lengths sets : List ℕ} (r : Reads I m c lengths sets) (all : ℕ) (s : SetOf (λ i. leb i m) all) where
-  pub set-all : SetOf (λ i. mem i (thoseTo m (λ j. true))) all
-  set-all = set-same _ (λ i l u. sym (all-mem m i l)) s
-
-  inside-all : (b : ℕ) → 0 < b → b ≤ c → inside (at sets b) all ≡ true
-  unfolding within
-  inside-all b p q =
-      inside-within r (thoseTo m (λ j. true)) all set-all b p q
-      ∙ every-mk (λ i. mem i (thoseTo m (λ j. true))) (listOf I b) (λ i e.
-      let w = r .valid .ranged b i e in
-      all-mem m i (w .0) ∙ le-leb i m (omega (arith, r .machines)))
-
-  minutes-all : (b : ℕ) → 0 < b → b ≤ c → pick (inside (at sets b) all) (at lengths b) 0 ≡ minutesOf I b
-  minutes-all b p q = rw (inside-all b p q) (r .minutes b p q)
-
-  pub total-all : confined I (thoseTo m (λ j. true)) ≡ total I
-  unfolding total
-  total-all =
-      confined-is r (thoseTo m (λ j. true)) all set-all
-      ∙ sumTo-ext c _ _ minutes-all
-      ∙ ap (λ (k : ℕ). sumTo k (λ b. minutesOf I b)) (sym (r .jobs))
-
-  pub longest-all : maxTo c (λ b. pick (inside (at sets b) all) (at lengths b) 0) ≡ longest I
-  unfolding longest
-  longest-all = maxTo-ext c _ _ minutes-all ∙ ap (λ (k : ℕ). maxTo k (λ b. minutesOf I b)) (sym (r .jobs))
+  -- one more: its row's answer says whether it counts
+  pub confined-more : (b : ℕ) (t : Bool) → b < c → LiesWithin (take 24 (drop (b * 24) marks)) group t
+      → confinedTo I list (suc b) ≡ confinedTo I list b + pick t (getD lengths b 0) 0
+  unfolding confinedTo sumTo
+  confined-more b t h s = rw (s .within _ list (few (suc b)) (w b h) e, r .minutes (suc b) (omega arith) h)
 
 -- ---- the bound
 

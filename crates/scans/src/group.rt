@@ -1,18 +1,21 @@
-// Groups of machines as words: the closure of a machine, all machines, a group's list, and the lower bound that it shows.
+// Groups of machines: as words the closure of a machine and all machines; a group's list; and by marks the lower bound that it shows.
 ghost use mathlib.Core.Path.{_≡_};
 ghost use mathlib.Core.List.{List};
-ghost use Prim.Native.Nat.{ℕ, _+_, _<_, _≤_, _^_};
+ghost use Prim.Native.Nat.{ℕ, _+_, _*_, _<_, _≤_, _^_};
 ghost use lib.ListN.{length, take};
 ghost use lib.Dec.{leb};
-ghost use Rattle.rules.specs.Fold.{pick, at, mem, maxTo, anyTo, thoseTo};
+ghost use Rattle.rules.specs.Fold.{pick, at, mem, anyTo, thoseTo};
 ghost use Rattle.rules.specs.Instance.{Instance};
 ghost use Rattle.rules.specs.Group.{reach, closure};
 ghost use Rattle.rules.specs.LowerBound.{confined, ceilDiv, lowerBound};
 ghost use Rattle.rules.specs.Load as Load;
+ghost use Rattle.rules.specs.Marks.{marksOf};
 ghost use Rattle.theory.proofs.Closure.{IsGroup};
 ghost use Rattle.arrays.specs.Sets.{has, SetOf};
 ghost use Rattle.arrays.specs.Reads.{Reads};
-ghost use Rattle.scans.specs.Grouping.{among, inside, groupBy, HoldsList};
+ghost use Rattle.scans.specs.Grouping.{among, groupBy, HoldsList};
+ghost use Rattle.scans.specs.Marks.{Marked};
+use crate::marks::lies_within;
 use crate::scan::some_underloaded;
 use arrays::MACHINES;
 use arrays::sets::is_in;
@@ -123,74 +126,24 @@ pub fn members_of(x: u32, m: usize) -> Members
     }
 }
 
-// Every machine of `mask` is in the group.
-pub fn lies_within(mask: u32, group: u32) -> bool
-    requires { ⌜ mask < 2 ^ 24 ⌝ }
-    ensures { λ r. ⌜ r ≡ inside mask group ⌝ }
-{
-    mask & !group == 0
-}
-
-// A job's minutes where its machines all lie in the group, 0 otherwise.
-fn counted(minutes: u16, mask: u32, group: u32) -> u32
-    requires { ⌜ mask < 2 ^ 24 ⌝ }
-    ensures { λ r. ⌜ (r ≡ pick (inside mask group) minutes 0) × (r ≤ 65535) ⌝ }
-{
-    if lies_within(mask, group) {
-        return minutes as u32;
-    }
-    0
-}
-
-// The minutes of the jobs whose machines all lie in the group.
-pub fn confined_of(minutes: &[u16], masks: &[u32], n: usize, group: u32) -> u32
-    requires { ⌜ (n ≤ 200) × (n ≤ length (now minutes)) × (n ≤ length (now masks)) × ((b : ℕ) → at (now masks) b < 2 ^ 24) ⌝ }
+// The minutes of the jobs whose machines all lie in the group, by 24 marks for each job and those of the group.
+pub fn confined_of(minutes: &[u16], marks: &[u8], n: usize, group: &[u8]) -> u32
+    requires { ⌜ (n ≤ 200) × (n ≤ length (now minutes)) × (n * 24 ≤ length (now marks)) × (length (now group) ≡ 24) ⌝ }
     ensures { λ r. ⌜ r ≤ 13107000 ⌝ }
-    ensures { λ r. ⌜ ((I : Instance) (m : ℕ) (list : List ℕ) → Reads I m n (now (minutes .entry)) (now (masks .entry)) → SetOf (λ i. mem i list) group
-        → r ≡ confined I list) ⌝ }
+    ensures { λ r. ⌜ ((I : Instance) (m : ℕ) (sets list : List ℕ) → Reads I m n (now (minutes .entry)) sets → Marked I n (now (marks .entry))
+        → now (group .entry) ≡ marksOf list → r ≡ confined I list) ⌝ }
 {
     let mut sum: u32 = 0;
     let mut b: usize = 0;
     while b < n {
-        sum += counted(minutes[b], masks[b], group);
-        b += 1;
-    }
-    sum
-}
-
-// The most minutes of a job whose machines all lie in the group.
-fn longest_within(minutes: &[u16], masks: &[u32], n: usize, group: u32) -> u32
-    requires { ⌜ (n ≤ length (now minutes)) × (n ≤ length (now masks)) × ((b : ℕ) → at (now masks) b < 2 ^ 24) ⌝ }
-    ensures { λ r. ⌜ r ≡ maxTo n (λ b. pick (inside (at (now (masks .entry)) b) group) (at (now (minutes .entry)) b) 0) ⌝ }
-{
-    let mut most: u32 = 0;
-    let mut b: usize = 0;
-    while b < n {
-        let x = counted(minutes[b], masks[b], group);
-        if most < x {
-            most = x;
+        let at = b * MACHINES;
+        let end = at + MACHINES;
+        if lies_within(&marks[at..end], group) {
+            sum += minutes[b] as u32;
         }
         b += 1;
     }
-    most
-}
-
-// The minutes of all jobs.
-pub fn total_of(minutes: &[u16], masks: &[u32], n: usize, m: usize) -> u32
-    requires { ⌜ (m ≤ 24) × (n ≤ 200) × (n ≤ length (now minutes)) × (n ≤ length (now masks)) × ((b : ℕ) → at (now masks) b < 2 ^ 24) ⌝ }
-    ensures { λ r. ⌜ ((I : Instance) → Reads I m n (now (minutes .entry)) (now (masks .entry)) → r ≡ Load.total I) ⌝ }
-{
-    let all = all_machines(m);
-    confined_of(minutes, masks, n, all)
-}
-
-// The longest length.
-pub fn longest_of(minutes: &[u16], masks: &[u32], n: usize, m: usize) -> u32
-    requires { ⌜ (m ≤ 24) × (n ≤ length (now minutes)) × (n ≤ length (now masks)) × ((b : ℕ) → at (now masks) b < 2 ^ 24) ⌝ }
-    ensures { λ r. ⌜ ((I : Instance) → Reads I m n (now (minutes .entry)) (now (masks .entry)) → r ≡ Load.longest I) ⌝ }
-{
-    let all = all_machines(m);
-    longest_within(minutes, masks, n, all)
+    sum
 }
 
 // Minutes shared out over `size` machines, rounded up.
@@ -205,18 +158,18 @@ pub fn share_of(confined: u32, size: u32) -> u32
 pub fn bound_of(
     longest: u32,
     minutes: &[u16],
-    masks: &[u32],
+    marks: &[u8],
     n: usize,
-    group: u32,
+    group: &[u8],
     size: u32,
 ) -> u32
-    requires { ⌜ (size ≤ 24) × (n ≤ 200) × (n ≤ length (now minutes)) × (n ≤ length (now masks)) × ((b : ℕ) → at (now masks) b < 2 ^ 24) ⌝ }
-    ensures { λ r. ⌜ ((I : Instance) (m : ℕ) (list : List ℕ) → Reads I m n (now (minutes .entry)) (now (masks .entry)) → SetOf (λ i. mem i list) group
-        → size ≡ length list → longest ≡ Load.longest I → r ≡ lowerBound I list) ⌝ }
+    requires { ⌜ (size ≤ 24) × (n ≤ 200) × (n ≤ length (now minutes)) × (n * 24 ≤ length (now marks)) × (length (now group) ≡ 24) ⌝ }
+    ensures { λ r. ⌜ ((I : Instance) (m : ℕ) (sets list : List ℕ) → Reads I m n (now (minutes .entry)) sets → Marked I n (now (marks .entry))
+        → now (group .entry) ≡ marksOf list → size ≡ length list → longest ≡ Load.longest I → r ≡ lowerBound I list) ⌝ }
 {
     if size == 0 {
         return longest;
     }
-    let share = share_of(confined_of(minutes, masks, n, group), size);
+    let share = share_of(confined_of(minutes, marks, n, group), size);
     if longest < share { share } else { longest }
 }

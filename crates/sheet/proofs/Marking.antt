@@ -10,20 +10,12 @@ use lib.Seq.{paste, take-suc, getD-drop, getD-set-same, getD-set-other, set-appe
 use lib.Dec.{eqb}
 use borrow.Author.Tests.{eqb-true, eqb-false}
 use Rattle.rules.specs.Fold.{pick, _or_, mem, listTo}
+use Rattle.rules.specs.Marks.{marksOf}
 use Rattle.theory.proofs.Logic.{byTest, or-right, or-false}
 use Rattle.theory.proofs.Member.{mem-append, mem-one, mem-head}
-use Rattle.theory.proofs.Entries.{length-listTo, getD-listTo}
-use Rattle.sheet.specs.View.{marksOf}
+use Rattle.theory.proofs.Marks.{length-marks, mark-at}
 
 -- ---- a list's marks
-
-pub length-marks : (l : List ℕ) → length (marksOf l) ≡ 24
-unfolding marksOf
-length-marks l = length-listTo 24 (λ i. pick (mem i l) 1 0)
-
-pub mark-at : (l : List ℕ) (k : ℕ) → k < 24 → getD (marksOf l) k 0 ≡ pick (mem (suc k) l) 1 0
-unfolding marksOf
-mark-at l k h = getD-listTo 24 (λ i. pick (mem i l) 1 0) k h
 
 pub marks-none : marksOf [] ≡ replicate 24 0
 unfolding marksOf listTo mem

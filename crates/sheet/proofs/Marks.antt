@@ -11,15 +11,16 @@ use lib.Dec.{leb}
 use borrow.Author.Tests.{leb-true}
 use Rattle.rules.specs.Sheet.{Batch, isInstrument, goodList}
 use Rattle.rules.specs.Instance.{Job, noJob, n, instance}
+use Rattle.rules.specs.Marks.{marksOf}
 use Rattle.theory.proofs.Logic.{and-left, and-right}
 use Rattle.theory.proofs.Member.{every-at}
+use Rattle.theory.proofs.Marks.{length-marks}
 use Rattle.theory.proofs.Sound.{jobs-count}
 use Rattle.sheet.specs.declared.Sheet.{Sheet}
 use Rattle.sheet.specs.Represent.{padded, batchAt, bookOf, Sound}
-use Rattle.sheet.specs.View.{marksOf, markRows, marks}
+use Rattle.sheet.specs.View.{markRows, marks}
 use Rattle.sheet.proofs.Padded.{padded-room, paste-at, paste-append}
 use Rattle.sheet.proofs.SoundArrays.{book-m, book-size, book-at, job-list, good-entry, few-instruments, good-index, list-size}
-use Rattle.sheet.proofs.Marking.{length-marks}
 
 -- ---- rows
 

@@ -2,28 +2,29 @@
 use Prim.Native.Nat.{ℕ, zero, suc, _+_, _-_, _*_, _≤_, _<_}
 use mathlib.Core.Path.{_≡_, refl, sym, ap, _∙_}
 use mathlib.Core.Bool.{true}
-use mathlib.Core.List.{List, [], _∷_, _++_, map, map-map}
+use mathlib.Core.List.{List, [], _∷_, _++_, append-assoc, map, map-map}
 use native.Mathlib.Omega.{arith}
-use lib.ListN.{length, getD, take, replicate, List·getD-map, List·getD-append, List·getD-eq-default}
-use lib.Seq.{take-at, getD-append-add}
+use lib.ListN.{length, getD, take, drop, replicate, List·getD-map, List·getD-eq-default}
+use lib.Seq.{take-at, drop-append-add, getD-take, getD-drop}
 use lib.Dec.{leb, ltb}
 use borrow.Author.Tests.{leb-true, ltb-true, ltb-false}
-use Rattle.rules.specs.Fold.{pick, at, mem, sumTo}
+use Rattle.rules.specs.Fold.{pick, at, sumTo}
 use Rattle.rules.specs.Sheet.{Book, Batch, noBatchHere, goodInstruments, goodMinutes}
 use Rattle.rules.specs.Instance.{Instance, Assignment, Job, noJob, n, jobOf, instance, places, minutesOf, listOf, eligible}
+use Rattle.rules.specs.Marks.{marksOf}
 use Rattle.rules.specs.Run.{withPlaces}
 use Rattle.theory.proofs.Small.{Small}
 use Rattle.theory.proofs.Logic.{byTest, and-left, and-right}
 use Rattle.theory.proofs.Fold.{sumTo-bound}
 use Rattle.theory.proofs.Valid.{Valid, Permitted}
+use Rattle.theory.proofs.Marks.{length-marks, mark-at}
 use Rattle.theory.proofs.Sound.{sound-is, jobs-count, sound-valid, sound-permitted, placed-sound}
 use Rattle.sheet.specs.declared.Sheet.{Sheet}
 use Rattle.sheet.specs.Represent.{padded, rows, sheetOf, bookOf, Sound}
-use Rattle.sheet.specs.View.{marksOf, markRows, marks}
+use Rattle.sheet.specs.View.{markRows, marks}
 use Rattle.theory.proofs.Entries.{getD-zeros}
 use Rattle.sheet.proofs.Represent.{book-sheet, sheet-sound}
 use Rattle.sheet.proofs.SoundArrays.{book-size, good-long, good-index}
-use Rattle.sheet.proofs.Marking.{length-marks, mark-at}
 
 -- ---- the arrays
 
@@ -67,33 +68,29 @@ minutes-at I (suc b) =
 
 -- ---- the marks
 
-row-entry : (js : List Job) (b k : ℕ) → b < length js → k < 24 →
-    getD (markRows js) (b * 24 + k) 0 ≡ pick (mem (suc k) (getD js b noJob .list)) 1 0
+row-part : (js : List Job) (r : List ℕ) (b : ℕ) → b < length js → take 24 (drop (b * 24) (markRows js ++ r)) ≡ marksOf (getD js b noJob .list)
 unfolding markRows
-row-entry [] b k h l = absurd (omega arith)
-row-entry (j ∷ js) zero k h l =
-    let e : 0 * 24 + k ≡ k = omega arith in
-    ap (λ (i : ℕ). getD (marksOf (j .list) ++ markRows js) i 0) e
-    ∙ List·getD-append (marksOf (j .list)) (markRows js) 0 k (omega (arith, length-marks (j .list)))
-    ∙ mark-at (j .list) k l
-row-entry (j ∷ js) (suc b) k h l =
-    let e : suc b * 24 + k ≡ length (marksOf (j .list)) + (b * 24 + k) = omega (arith, length-marks (j .list)) in
-    ap (λ (i : ℕ). getD (marksOf (j .list) ++ markRows js) i 0) e
-    ∙ getD-append-add (marksOf (j .list)) (markRows js) (b * 24 + k) 0
-    ∙ row-entry js b k (omega arith) l
+row-part [] r b h = absurd (omega arith)
+row-part (j ∷ js) r zero h = rw append-assoc (take-at (marksOf (j .list)) (markRows js ++ r) 24 (length-marks (j .list)))
+row-part (j ∷ js) r (suc b) h =
+    let e : suc b * 24 ≡ length (marksOf (j .list)) + b * 24 = omega (arith, length-marks (j .list)) in
+    rw (append-assoc, e, drop-append-add) (row-part js r b (omega arith))
+
+-- the row of the batch at index b
+pub marks-row : (I : Instance) (b : ℕ) → b < n I → take 24 (drop (b * 24) (marks I)) ≡ marksOf (listOf I (suc b))
+unfolding marks
+marks-row I b h = row-part (I .jobs) _ b h
 
 -- instrument i may run batch b
 pub marks-at : (I : Instance) (b i : ℕ) → 0 < b → b ≤ n I → 0 < i → i ≤ 24 →
     getD (marks I) ((b - 1) * 24 + (i - 1)) 0 ≡ pick (eligible I b i) 1 0
-unfolding marks
-marks-at I zero i p q f g = absurd (omega arith)
-marks-at I (suc b) zero p q f g = absurd (omega arith)
-marks-at I (suc b) (suc i) p q f g =
-    let e : (suc b - 1) * 24 + (suc i - 1) ≡ b * 24 + i = omega arith in
-    let r = markRows (I .jobs) in
-    ap (λ (k : ℕ). getD (padded 4800 r) k 0) e
-    ∙ getD-zeros r (4800 - length r) (b * 24 + i)
-    ∙ row-entry (I .jobs) b i (omega arith) (omega arith)
+marks-at I b i p q f g =
+    let e : suc (b - 1) ≡ b = omega arith in
+    let z : suc (i - 1) ≡ i = omega arith in
+    sym (getD-take 24 (drop ((b - 1) * 24) (marks I)) (i - 1) 0 (omega arith) ∙ getD-drop ((b - 1) * 24) (marks I) (i - 1) 0)
+    ∙ ap (λ (l : List ℕ). getD l (i - 1) 0) (marks-row I (b - 1) (omega arith))
+    ∙ mark-at (listOf I (suc (b - 1))) (i - 1) (omega arith)
+    ∙ (rw (e, z))
 
 -- ---- the limits
 

@@ -1,14 +1,11 @@
 -- Who may run what, as entries of 1 and 0, a row of 24 for each job; and places made permitted.
 use Prim.Native.Nat.{ℕ}
 use mathlib.Core.List.{List, [], _∷_, _++_}
-use Rattle.rules.specs.Fold.{pick, at, mem, listTo}
+use Rattle.rules.specs.Fold.{at, listTo}
 use Rattle.rules.specs.Edit.{kept}
 use Rattle.rules.specs.Instance.{Instance, Assignment, Job, n, listOf}
+use Rattle.rules.specs.Marks.{marksOf}
 use Rattle.sheet.specs.Represent.{padded}
-
--- entry i - 1 is 1 where l names i
-unfoldable pub marksOf : List ℕ → List ℕ
-marksOf l = listTo 24 (λ i. pick (mem i l) 1 0)
 
 -- the rows of jobs
 unfoldable pub markRows : List Job → List ℕ

@@ -6,9 +6,10 @@ ghost use lib.ListN.{length, getD, take, drop, replicate};
 ghost use lib.Seq.{paste};
 ghost use Rattle.rules.specs.Sheet.{Batch};
 ghost use Rattle.rules.specs.Instance.{Job, instance, n, places};
+ghost use Rattle.rules.specs.Marks.{marksOf};
 ghost use Rattle.rules.specs.Run.{withPlaces};
 ghost use Rattle.sheet.specs.Represent.{Sound, padded, rows, bookOf, sheetOf};
-ghost use Rattle.sheet.specs.View.{marksOf, marks, keptPlaces};
+ghost use Rattle.sheet.specs.View.{marks, keptPlaces};
 use crate::Sheet;
 use crate::kept_in;
 

@@ -4,7 +4,7 @@ use mathlib.Core.Path.{_≡_, refl}
 use mathlib.Core.Bool.{Bool, true, false}
 use native.Mathlib.Nat.{le-refl}
 use native.Mathlib.Omega.{arith}
-use Rattle.rules.specs.Fold.{firstTo, anyTo, lesser, leastTo}
+use Rattle.rules.specs.Fold.{firstTo, anyTo, allTo, lesser, leastTo}
 use Rattle.theory.proofs.Logic.{byTest, conflict}
 use Rattle.theory.proofs.View.{None, First, first, Least, least, Some, here, any-some, any-at}
 
@@ -17,6 +17,11 @@ pub any-ext : (k : ℕ) (p q : ℕ → Bool) → ((i : ℕ) → 0 < i → i ≤ 
 unfolding anyTo
 any-ext zero p q h = refl
 any-ext (suc k) p q h = rw (any-ext k p q (λ i l u. h i l (omega arith)), h (suc k) (omega arith) (le-refl (suc k)))
+
+pub all-ext : (k : ℕ) (p q : ℕ → Bool) → ((i : ℕ) → 0 < i → i ≤ k → p i ≡ q i) → allTo k p ≡ allTo k q
+unfolding allTo
+all-ext zero p q h = refl
+all-ext (suc k) p q h = rw (all-ext k p q (λ i l u. h i l (omega arith)), h (suc k) (omega arith) (le-refl (suc k)))
 
 pub least-le : (k : ℕ) (p : ℕ → Bool) (f : ℕ → ℕ) → leastTo k p f ≤ k
 least-le k p f = from (least k p f)

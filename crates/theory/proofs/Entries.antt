@@ -26,6 +26,11 @@ getD-listTo (suc n) f k h =
     (λ t. let g : k ≡ n = omega (arith, ltb-false k n t) in
     rw g (getD-at (listTo n f) (f (suc n)) [] 0 n (length-listTo n f)))
 
+pub listTo-ext : (n : ℕ) (f g : ℕ → ℕ) → ((i : ℕ) → 0 < i → i ≤ n → f i ≡ g i) → listTo n f ≡ listTo n g
+unfolding listTo
+listTo-ext zero f g h = refl
+listTo-ext (suc n) f g h = rw (listTo-ext n f g (λ i l u. h i l (omega arith)), h (suc n) (omega arith) (le-refl (suc n)))
+
 -- a list's front part, by its entries
 pub take-list : (k : ℕ) (l : List ℕ) (f : ℕ → ℕ) → k ≤ length l → ((i : ℕ) → 0 < i → i ≤ k → at l i ≡ f i) → take k l ≡ listTo k f
 unfolding listTo

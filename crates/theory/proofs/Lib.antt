@@ -6,6 +6,7 @@ pub mod Fold
 pub mod View
 pub mod Agree
 pub mod Member
+pub mod Marks
 pub mod Those
 pub mod Records
 pub mod Valid

@@ -79,3 +79,17 @@ false-or a = refl
 -- what fails may be left out on the left
 pub or-skip : {a : Bool} (b : Bool) → a ≡ false → a or b ≡ b
 or-skip b e = rw e (false-or b)
+
+-- ---- one only where the other, and two that pass together
+
+pub then-mk : (a b : Bool) → (a ≡ true → b ≡ true) → not a or b ≡ true
+then-mk true b h = or-right (not true) b (h refl)
+then-mk false b h = or-left (not false) b refl
+
+pub then-use : (a b : Bool) → not a or b ≡ true → a ≡ true → b ≡ true
+then-use a b h e = or-cases (not a) b h (λ t. conflict t (rw e)) (λ t. t)
+
+pub same-test : (a b : Bool) → (a ≡ true → b ≡ true) → (b ≡ true → a ≡ true) → a ≡ b
+same-test true b f g = sym (f refl)
+same-test false true f g = g refl
+same-test false false f g = refl

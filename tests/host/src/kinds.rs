@@ -76,6 +76,11 @@ impl Kind {
 
     /// A sheet of this kind.
     pub fn sheet(&self, rng: &mut Rng) -> Vec<u8> {
+        self.draft(rng).render()
+    }
+
+    /// What it says.
+    pub fn draft(&self, rng: &mut Rng) -> Draft {
         let m = 24;
         let usual = rng.within(1, 1440);
         let crowded = rng.within(1, m);
@@ -111,7 +116,6 @@ impl Kind {
             instruments: m,
             lines,
         }
-        .render()
     }
 }
 

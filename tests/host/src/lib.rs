@@ -11,6 +11,7 @@ pub mod filed;
 pub mod journal;
 pub mod kinds;
 pub mod listing;
+pub mod marks;
 pub mod runs;
 pub mod seen;
 pub mod share;

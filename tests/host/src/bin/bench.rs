@@ -8,12 +8,22 @@
 //! a sheet, and the ratio is the middle one of the rounds' ratios. The least
 //! times and their ratio follow. The goal is a ratio of at most 1.5 on every
 //! kind of sheet.
+//!
+//! Then what it costs to ask of each of a sheet's 200 lists whether it lies
+//! inside the group that planning gives: by a set of instruments in one number
+//! for each, by six words made of 24 marks, and by the marks one after the other
+//! up to the first outside. No exported call does that alone, so the loops are
+//! this program's own, and the code for them is rustc's; the sets and the marks
+//! are made before. The times are nanoseconds for the 200, the middle ones and
+//! the least ones; the group's size and how many lists lie inside follow, on
+//! average. No goal is set for these.
 
 use std::env;
 use std::hint::black_box;
 
 use host::kinds::{self, Kind, Lengths, Lists, Places};
-use host::listing::MOST;
+use host::listing::{Listing, MOST};
+use host::marks::{by_word, marks, one_by_one};
 use host::{plan, plan_second, Hosted};
 use second::rng::Rng;
 
@@ -22,6 +32,9 @@ const GOAL: f64 = 1.5;
 
 /// Sheets of a kind.
 const SHEETS: u64 = 24;
+
+/// How often a turn asks of all lists of these sheets whether they are confined.
+const TIMES: usize = 50;
 
 /// About how many microseconds a turn takes.
 const TURN: f64 = 500.0;
@@ -114,6 +127,77 @@ fn row(name: &str, sheets: &[Vec<u8>], rounds: usize) -> [f64; 2] {
     [ratio, best_ratio]
 }
 
+/// A set of instruments in one number.
+fn set(instruments: &[u32]) -> u32 {
+    instruments.iter().fold(0, |set, j| set | 1 << (j - 1))
+}
+
+fn by_set(list: &u32, group: &u32) -> bool {
+    list & !group == 0
+}
+
+/// Nanoseconds for the lists of a sheet. Each sheet is its group and its lists.
+fn asking<S>(sheets: &[(S, Vec<S>)], inside: impl Fn(&S, &S) -> bool) -> f64 {
+    let start = now();
+    for _ in 0..TIMES {
+        for (group, lists) in sheets {
+            let asked = |list: &&S| inside(black_box(*list), black_box(group));
+            black_box(lists.iter().filter(asked).count());
+        }
+    }
+    1e3 * (now() - start) / (TIMES * sheets.len()) as f64
+}
+
+/// Time the three ways on the sheets of a kind and print their line. The groups
+/// come from the listings, which `row` has compared with the second planner's.
+fn confinement(kind: &Kind, rounds: usize) {
+    let mut rng = Rng::new(1);
+    let mut listing = vec![0; MOST];
+    let (mut sets, mut marked) = (Vec::new(), Vec::new());
+    let (mut members, mut confined) = (0, 0);
+    for _ in 0..SHEETS {
+        let draft = kind.draft(&mut rng);
+        let length = plan(&draft.render(), &mut listing).length;
+        let group = Listing::parse(&listing[..length]).expect("a listing").group;
+        let lists = || draft.lines.iter().map(|line| line.list.as_slice());
+        members += group.len();
+        for list in lists() {
+            let inside = list.iter().all(|j| group.contains(j));
+            let ways = [
+                by_set(&set(list), &set(&group)),
+                by_word(&marks(list), &marks(&group)),
+                one_by_one(&marks(list), &marks(&group)),
+            ];
+            assert_eq!(ways, [inside; 3], "the ways differ");
+            confined += inside as usize;
+        }
+        sets.push((set(&group), lists().map(set).collect()));
+        marked.push((marks(&group), lists().map(marks).collect()));
+    }
+    let mut times = [const { Vec::new() }; 3];
+    for round in 0..=rounds {
+        // None is always the first.
+        for way in (round..round + 3).map(|k| k % 3) {
+            let time = match way {
+                0 => asking(&sets, by_set),
+                1 => asking(&marked, by_word),
+                _ => asking(&marked, one_by_one),
+            };
+            if round > 0 {
+                times[way].push(time);
+            }
+        }
+    }
+    let [best, best2, best3] = times.each_ref().map(|times| least(times));
+    let [by_set, by_word, by_byte] = times.map(middle);
+    let [members, confined] = [members, confined].map(|sum| sum as f64 / SHEETS as f64);
+    println!(
+        "{:<46} {by_set:9.0} {by_word:9.0} {by_byte:9.0}   {best:9.0} {best2:9.0} {best3:9.0}   \
+         {members:7.1} {confined:7.1}",
+        kind.name()
+    );
+}
+
 fn main() {
     let given = env::args().nth(1);
     let rounds = given.map_or(15, |word| word.parse().expect("a number of rounds"));
@@ -150,4 +234,27 @@ fn main() {
         "worst ratio {:.3}, of least times {:.3}; the goal is at most {GOAL}",
         worst[0], worst[1]
     );
+    println!(
+        "\n{:<46} {:>9} {:>9} {:>9}   {:>9} {:>9} {:>9}   {:>7} {:>7}",
+        "whether 200 lists lie inside the group",
+        "set ns",
+        "words ns",
+        "bytes ns",
+        "least ns",
+        "least ns",
+        "least ns",
+        "group",
+        "inside"
+    );
+    for lists in [Lists::Short, Lists::Long] {
+        for places in [Places::Given, Places::Crowded] {
+            let lengths = Lengths::Random;
+            let kind = Kind {
+                lists,
+                lengths,
+                places,
+            };
+            confinement(&kind, rounds);
+        }
+    }
 }

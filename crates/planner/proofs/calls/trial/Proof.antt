@@ -1,12 +1,13 @@
 -- The trial over the sheet's arrays is the rules'.
 use Prim.Native.Nat.{_≤_}
-use mathlib.Core.Path.{_≡_}
+use mathlib.Core.Path.{_≡_, _∙_}
 use native.Mathlib.Omega.{arith}
 use lib.ListN.{length}
 use borrow.Author.Needs.{needs}
 use Rattle.rules.specs.Instance.{instance}
 use Rattle.rules.specs.Load.{total, longest}
 use Rattle.theory.proofs.Small.{total-small, longest-small}
+use Rattle.arrays.proofs.Lengths.{total-reads, longest-reads}
 use Rattle.sheet.specs.Represent.{bookOf}
 use Rattle.planner.proofs.Answered.{trial-answered}
 use Rattle.planner.proofs.TrialAnswers.{answered-refused, answered-passed, answered-failed}
@@ -24,19 +25,19 @@ masks-long c = omega (arith, c .lay .ensures .stands .reads .most, c .lay .ensur
 -- ---- a level that is not refused, and its limit
 
 abbrev at-lay : tie.After-total-of → tie.After-lay
-at-lay c = c .before .before .before .before .before
+at-lay c = c .before .before .before .before
 
 total-by : (c : tie.After-total-of) → c .total-of .result ≡ total (instance (bookOf (at-lay c .before .args .sheet)))
-total-by c = c .total-of .ensures _ (at-lay c .lay .ensures .stands .reads)
+total-by c = c .total-of .ensures ∙ total-reads (at-lay c .lay .ensures .stands .reads)
 
 within : (c : tie.Else1) → at-lay (c .before) .before .args .level ≤ total (instance (bookOf (at-lay (c .before) .before .args .sheet)))
 within c = omega (arith, c .if1 .left, total-by (c .before))
 
 abbrev level : tie.After-longest-of → tie.Else1
-level c = c .before .before .before .before .before
+level c = c .before .before .before .before
 
 longest-by : (c : tie.After-longest-of) → c .longest-of .result ≡ longest (instance (bookOf (at-lay (level c .before) .before .args .sheet)))
-longest-by c = c .longest-of .ensures _ (at-lay (level c .before) .lay .ensures .stands .reads)
+longest-by c = c .longest-of .ensures ∙ longest-reads (at-lay (level c .before) .lay .ensures .stands .reads)
 
 abbrev tried : tie.After-try-level → tie.After-longest-of
 tried c = c .before .before .before
@@ -47,14 +48,10 @@ lay-requires c κs = search needs
 slice-aggregate-total-of : tie.Need-slice-aggregate-total-of
 slice-aggregate-total-of c = search needs
 
-slice-aggregate-total-of-2 : tie.Need-slice-aggregate-total-of-2
-slice-aggregate-total-of-2 c = search needs
-
 total-of-requires : tie.Need-total-of-requires
 total-of-requires c κs =
-    let l = c .before .before .before .before in
-    let r = l .lay .ensures .stands .reads in
-    (r .few, r .most, minutes-long l, masks-long l, r .words)
+    let l = c .before .before .before in
+    (l .lay .ensures .stands .reads .most, minutes-long l)
 
 returns : tie.Need-returns
 returns c =
@@ -65,14 +62,8 @@ returns c =
 slice-aggregate-longest-of : tie.Need-slice-aggregate-longest-of
 slice-aggregate-longest-of c = search needs
 
-slice-aggregate-longest-of-2 : tie.Need-slice-aggregate-longest-of-2
-slice-aggregate-longest-of-2 c = search needs
-
 longest-of-requires : tie.Need-longest-of-requires
-longest-of-requires c κs =
-    let l = at-lay (c .before .before .before .before .before) in
-    let r = l .lay .ensures .stands .reads in
-    (r .few, minutes-long l, masks-long l, r .words)
+longest-of-requires c κs = minutes-long (at-lay (c .before .before .before .before))
 
 add-limit : tie.Need-add-limit
 add-limit c =
@@ -120,11 +111,9 @@ trial-spec =
     (tie.spec
     lay-requires
     slice-aggregate-total-of
-    slice-aggregate-total-of-2
     total-of-requires
     returns
     slice-aggregate-longest-of
-    slice-aggregate-longest-of-2
     longest-of-requires
     add-limit
     slice-aggregate-try-level

@@ -7,7 +7,7 @@ use Rattle.scans.proofs.group.bound_of.Statement.{statement}
 use Rattle.scans.proofs.group.bound_of.Tie as tie
 
 returns : tie.Need-returns
-returns c I m list r s z e = e ∙ sym (bound-none I list (sym z ∙ c .if1 .taken))
+returns c I m sets list r w s z e = e ∙ sym (bound-none I list (sym z ∙ c .if1 .taken))
 
 confined-of-requires : tie.Need-confined-of-requires
 confined-of-requires c κs = search needs
@@ -20,8 +20,8 @@ returns-2 c =
     let sh = c .before in
     let co = sh .before in
     let el = co .before in
-    λ I m list r s z e.
-    sym (bound-is I list _ (co .confined-of .result) _ (sh .share-of .result) (el .if1 .left) e (co .confined-of .ensures .1 I m list r s) z (sh .share-of .ensures)
+    λ I m sets list r w s z e.
+    sym (bound-is I list _ (co .confined-of .result) _ (sh .share-of .result) (el .if1 .left) e (co .confined-of .ensures .1 I m sets list r w s) z (sh .share-of .ensures)
     ∙ most-up _ (sh .share-of .result) (c .if2 .taken))
 
 returns-3 : tie.Need-returns-3
@@ -29,8 +29,8 @@ returns-3 c =
     let sh = c .before in
     let co = sh .before in
     let el = co .before in
-    λ I m list r s z e.
-    sym (bound-is I list _ (co .confined-of .result) _ (sh .share-of .result) (el .if1 .left) e (co .confined-of .ensures .1 I m list r s) z (sh .share-of .ensures)
+    λ I m sets list r w s z e.
+    sym (bound-is I list _ (co .confined-of .result) _ (sh .share-of .result) (el .if1 .left) e (co .confined-of .ensures .1 I m sets list r w s) z (sh .share-of .ensures)
     ∙ most-stay _ (sh .share-of .result) (c .if2 .left))
 
 pub bound-of-spec : {M : Type 1} → statement M
