@@ -26,6 +26,10 @@
  * Numbers in a sheet, a journal and every text are decimal, each in six columns with blanks before it; only the settling moves have
  * twelve columns. Zero is the one digit 0, and no other number starts with 0. Every line ends in one LF. Six blanks stand for no number: a
  * sheet may have them for a place, and nowhere else; a journal has none.
+ *
+ * An instrument is calibrated after it is switched on, whether or not a batch is run on it. A calibration above 0 counts as a batch that only
+ * its own instrument may run: in loads, finish, floor and total minutes, as the longest, and in a trial's raises and bumps. It is no batch
+ * of the sheet, though: it is neither listed nor moved nor edited, and needs no entry of a list. Other plans have the same calibrations.
  */
 #ifndef BANKPLAN_H
 #define BANKPLAN_H
@@ -41,6 +45,7 @@ extern "C" {
 #define BANKPLAN_MOST_INSTRUMENTS 24
 #define BANKPLAN_MOST_BATCHES 200
 #define BANKPLAN_MOST_MINUTES 1440
+#define BANKPLAN_MOST_CALIBRATION 240
 
 /* The largest listing in bytes: a buffer of this size never gets BANKPLAN_BUFFER_SHORT from bankplan_plan. */
 #define BANKPLAN_LARGEST_LISTING 3994
@@ -49,30 +54,31 @@ extern "C" {
 #define BANKPLAN_LONGEST_ANSWER 3793
 
 /* The largest written sheet in bytes: a buffer of this size is never too short for bankplan_write, bankplan_balance and bankplan_settle. */
-#define BANKPLAN_LARGEST_SHEET 32613
+#define BANKPLAN_LARGEST_SHEET 32758
 
 /*
- * Refusals. 1 to 5 are those of a sheet, and come with the line. 3 to 9 are those of a single call of a journal: they stand in its
+ * Refusals. 1 to 5 and 10 are those of a sheet, and come with the line. 3 to 9 are those of a single call of a journal: they stand in its
  * answers, and the run goes on. 9 and 19 are the host's own.
  */
 enum bankplan_refusal {
     BANKPLAN_NO_REFUSAL = 0,
-    BANKPLAN_MALFORMED = 1,    /* the sheet is not of its form, a field other than a place is blank, or bytes are missing or left over */
-    BANKPLAN_BAD_SIZE = 2,     /* instruments not 1 to 24, or batches more than 200 */
-    BANKPLAN_BAD_LENGTH = 3,   /* a length that is not 1 to 1440 minutes */
-    BANKPLAN_BAD_LIST = 4,     /* qualified list empty, too long, with an instrument that is not there, or one twice */
-    BANKPLAN_BAD_PLACE = 5,    /* a place that is not in the batch's list */
-    BANKPLAN_NO_BATCH = 6,     /* no batch of that number */
-    BANKPLAN_SHEET_FULL = 7,   /* a batch more than 200 */
-    BANKPLAN_LEVEL_ABOVE = 8,  /* a trial's level above the total minutes */
-    BANKPLAN_BUFFER_SHORT = 9, /* the lent buffer is shorter than the text, or the list for records has fewer entries than batches */
-    BANKPLAN_BAD_JOURNAL = 19  /* the journal is not of its form */
+    BANKPLAN_MALFORMED = 1,        /* the sheet is not of its form, a field other than a place is blank, or bytes are missing or left over */
+    BANKPLAN_BAD_SIZE = 2,         /* instruments not 1 to 24, or batches more than 200 */
+    BANKPLAN_BAD_LENGTH = 3,       /* a length that is not 1 to 1440 minutes */
+    BANKPLAN_BAD_LIST = 4,         /* qualified list empty, too long, with an instrument that is not there, or one twice */
+    BANKPLAN_BAD_PLACE = 5,        /* a place that is not in the batch's list */
+    BANKPLAN_NO_BATCH = 6,         /* no batch of that number */
+    BANKPLAN_SHEET_FULL = 7,       /* a batch more than 200 */
+    BANKPLAN_LEVEL_ABOVE = 8,      /* a trial's level above the total minutes */
+    BANKPLAN_BUFFER_SHORT = 9,     /* the lent buffer is shorter than the text, or the list for records has fewer entries than batches */
+    BANKPLAN_BAD_CALIBRATION = 10, /* a calibration that is not 0 to 240 minutes */
+    BANKPLAN_BAD_JOURNAL = 19      /* the journal is not of its form */
 };
 
 /* What bankplan_plan, bankplan_run and bankplan_write answer. */
 typedef struct bankplan_answer {
-    uint32_t refusal; /* 0 for none, 1 to 5, or 9; with a journal also 19 */
-    size_t line;      /* the sheet's line of refusals 1 to 5, the journal's of 19, both from 1; otherwise 0 */
+    uint32_t refusal; /* 0 for none, 1 to 5, 9, or 10; with a journal also 19 */
+    size_t line;      /* the sheet's line of refusals 1 to 5 and 10, the journal's of 19, both from 1; otherwise 0 */
     size_t length;    /* the bytes written; 0 on a refusal */
 } bankplan_answer;
 
@@ -85,8 +91,8 @@ typedef struct bankplan_move {
 
 /* What bankplan_balance answers. On a refusal all but refusal and line is 0. */
 typedef struct bankplan_balanced {
-    uint32_t refusal;                         /* 0 for none, 1 to 5, or 9 */
-    size_t line;                              /* the sheet's line of refusals 1 to 5, from 1; otherwise 0 */
+    uint32_t refusal;                         /* 0 for none, 1 to 5, 9, or 10 */
+    size_t line;                              /* the sheet's line of refusals 1 to 5 and 10, from 1; otherwise 0 */
     size_t length;                            /* the bytes of the written sheet */
     uint32_t finish;                          /* the finish that balance leaves; the rest is as in a listing */
     uint32_t floor;
@@ -111,17 +117,19 @@ typedef struct bankplan_settled {
 /*
  * Plans a sheet, and writes its listing at the front of the lent buffer.
  *
- * A sheet: line 1 has the numbers of instruments and of batches. Then each batch has a line: its length in minutes, its place (0 or six
- * blanks: the first listed instrument), how many instruments are qualified, and those. Nothing follows the last line.
+ * A sheet: line 1 has the numbers of instruments and of batches. Line 2 has each instrument's calibration in minutes, 0 for none. Then
+ * each batch has a line: its length in minutes, its place (0 or six blanks: the first listed instrument), how many instruments are
+ * qualified, and those. Nothing follows the last line.
  *
  * A listing: line 1 has the finish, the floor that no plan can beat, the level, raises and bumps of the trial kept, and the settling
  * moves. Line 2 has the size and the instruments of the group of the highest level that failed, or 0 where none failed; where the floor is
- * above the longest batch, that group shows it. Then each batch has a line: its number, its place and its length.
+ * above the longest batch or calibration, that group shows it. Then each batch has a line: its number, its place and its length.
  *
  * Planning is to balance, and to settle straight after: the finish and the settling moves are those of settle, the rest of lines 1 and 2
  * that of balance.
  *
- * The first fault in the sheet decides which of 1 to 5 is answered; 9 comes only for a sheet without a fault.
+ * The first fault in the sheet decides which of 1 to 5 or 10 is answered; 9 comes only for a sheet without a fault. A sheet without line 2,
+ * as it was before there were calibrations, is refused.
  */
 bankplan_answer bankplan_plan(const uint8_t *sheet, size_t sheet_length, uint8_t *listing, size_t listing_length);
 
@@ -153,8 +161,8 @@ bankplan_answer bankplan_plan(const uint8_t *sheet, size_t sheet_length, uint8_t
  *                                                   the group's size and the group; how many records, and three numbers for each
  *   8        0 FINISH MOVES COUNT BATCH FROM TO..   the settling moves, in twelve columns; how many records, and those
  *
- * The order of refusals: 1 to 5 for the sheet, then 19 for the journal, then 9. A journal is judged whole before its first call is made. On
- * 9, call again with a larger buffer: the answers are the same.
+ * The order of refusals: 1 to 5 or 10 for the sheet, then 19 for the journal, then 9. A journal is judged whole before its first call is
+ * made. On 9, call again with a larger buffer: the answers are the same.
  */
 bankplan_answer bankplan_run(const uint8_t *sheet, size_t sheet_length, const uint8_t *journal, size_t journal_length,
                              uint8_t *answers, size_t answers_length);
@@ -164,8 +172,8 @@ bankplan_answer bankplan_run(const uint8_t *sheet, size_t sheet_length, const ui
  * journal writes the sheet back.
  *
  * The written sheet is one that can be read, and reading it gives the very sheet that the calls left, so the next journal may start
- * from it. Every place is the true one, never 0 or blank, and lists keep their order. A sheet written back has as many bytes as the
- * one that was read, and differs from it at most in places that were 0 or blank.
+ * from it. Every place is the true one, never 0 or blank, and lists keep their order; line 2 is that of the sheet that was read. A sheet
+ * written back has as many bytes as the one that was read, and differs from it at most in places that were 0 or blank.
  *
  * Refusals and their order are those of bankplan_run. A call of the journal that is refused leaves the sheet as it was, and the run goes
  * on; only bankplan_run's answers tell which one it was.
@@ -178,10 +186,10 @@ bankplan_answer bankplan_write(const uint8_t *sheet, size_t sheet_length, const 
  * the form of bankplan_write, at the front of the lent buffer. The length of the list counts entries.
  *
  * There is one record for each batch whose place differs afterwards, ascending by batch. The finish is no later than it was; on a sheet
- * with a batch it is above that of any plan on qualified instruments by less than the longest batch.
+ * with a batch or a calibration above 0 it is above that of any plan on qualified instruments by less than the longest of them.
  *
- * The order of refusals: 1 to 5 for the sheet; then 9 where the list has fewer entries than the sheet has batches, however many records
- * there are; then 9 where the buffer is shorter than the written sheet.
+ * The order of refusals: 1 to 5 or 10 for the sheet; then 9 where the list has fewer entries than the sheet has batches, however many
+ * records there are; then 9 where the buffer is shorter than the written sheet.
  */
 bankplan_balanced bankplan_balance(const uint8_t *sheet, size_t sheet_length, bankplan_move *moves, size_t moves_length,
                                    uint8_t *written, size_t written_length);

@@ -29,11 +29,20 @@ cmp -s examples/blank.txt "$work/zeros" && fail "examples/blank.txt has no blank
 "$work/host" "$work/zeros" "$work/empty" | cmp -s - "$work/out" || fail "a blank place is not place 0"
 
 # what is settled at midday has nothing left to settle
-tail -n 4 examples/expected.txt >"$work/left"
+tail -n 5 examples/expected.txt >"$work/left"
 "$work/host" "$work/left" "$work/empty" >"$work/out" || fail "the example did not end well on the sheet that midday left"
 [ "$(grep -c '^midday: finish 25, settling moves 0$' "$work/out")" = 1 ] || fail "the sheet that midday left is not settled"
 ! grep -q '^batch' "$work/out" || fail "a batch moves on a settled sheet"
-tail -n 4 "$work/out" | cmp -s - "$work/left" || fail "a settled sheet changes"
+tail -n 5 "$work/out" | cmp -s - "$work/left" || fail "a settled sheet changes"
+
+# the same sheet with a calibration: both batches that may leave it go to the other instrument, and line 2 is kept
+[ "$(diff examples/sheet.txt examples/calibrated.txt | grep -c '^[<>]')" = 2 ] || fail "examples/calibrated.txt differs in more than line 2"
+"$work/host" examples/calibrated.txt "$work/empty" >"$work/out" || fail "the example did not end well on a sheet with calibrations"
+head -n 5 "$work/out" >"$work/listing"
+printf '%s\n' "    40    40    20     2     2           1" "     2     1     2" "     1     2    30" "     2     1    20" \
+    "     3     2    10" | diff - "$work/listing" >&2 || fail "the example plans a sheet with calibrations in another way"
+[ "$(grep -c '^midday: finish 40, settling moves 2$' "$work/out")" = 1 ] || fail "the example settles a sheet with calibrations in another way"
+[ "$(grep -c '^    20     0$' "$work/out")" = 2 ] || fail "the example loses the calibrations"
 
 # refused TEXT WORDS..: the example on these files ends with 1, and TEXT is all that it says
 refused() {
@@ -46,17 +55,27 @@ refused() {
 
 cd "$work"
 top=$OLDPWD
-sed '3s/20/ 0/' "$top/examples/sheet.txt" >sheet
+sed '4s/20/ 0/' "$top/examples/sheet.txt" >sheet
 sed '4s/$/ /' "$top/examples/journal.txt" >journal
-refused "host: sheet: line 3: refusal 3, length out of range" sheet "$top/examples/journal.txt"
+refused "host: sheet: line 4: refusal 3, length out of range" sheet "$top/examples/journal.txt"
 [ ! -s out ] || fail "the example prints something for a refused sheet"
 refused "host: journal: line 4: refusal 19, not of a journal's form" "$top/examples/sheet.txt" journal
-sed '2s/^    45/      /' "$top/examples/blank.txt" >sheet
+sed '3s/^    45/      /' "$top/examples/blank.txt" >sheet
 sed '3s/     2$/      /' "$top/examples/journal.txt" >journal
-refused "host: sheet: line 2: refusal 1, not of a sheet's form" sheet "$top/examples/journal.txt"
+refused "host: sheet: line 3: refusal 1, not of a sheet's form" sheet "$top/examples/journal.txt"
 refused "host: journal: line 3: refusal 19, not of a journal's form" "$top/examples/sheet.txt" journal
 sed '8s/^     7     4$/     7/' "$top/examples/journal.txt" >journal
 refused "host: journal: line 8: refusal 19, not of a journal's form" "$top/examples/sheet.txt" journal
+sed '2s/^    20/   241/' "$top/examples/calibrated.txt" >sheet
+refused "host: sheet: line 2: refusal 10, calibration out of range" sheet "$top/examples/journal.txt"
+[ ! -s out ] || fail "the example prints something for a refused calibration"
+# a sheet without line 2, as it was before there were calibrations
+sed 2d "$top/examples/sheet.txt" >sheet
+refused "host: sheet: line 2: refusal 1, not of a sheet's form" sheet "$top/examples/journal.txt"
+# and README's command for such sheets adds it
+bring=$(sed -n "s/^    \(awk .*\) OLD > NEW$/\1 sheet/p" "$top/README.md")
+[ -n "$bring" ] || fail "README.md has no command that adds line 2"
+bash -c "$bring" | cmp -s - "$top/examples/sheet.txt" || fail "README.md's command makes another sheet than examples/sheet.txt"
 refused "host: none: No such file or directory" none journal
 
 ./boundary || fail "the calls are not as they should be at their edges"

@@ -125,6 +125,7 @@ static int refused_settle(bankplan_settled z, uint32_t refusal, size_t line)
 }
 
 static const char sheet[] = "     2     3\n"
+                            "     0     0\n"
                             "    30     1     2     1     2\n"
                             "    20     1     1     1\n"
                             "    10     1     2     1     2\n";
@@ -134,6 +135,7 @@ static const char listing[] = "    30    30     0     2     2           0\n"
                               "     2     1    20\n"
                               "     3     1    10\n";
 static const char too_long[] = "     1     1\n"
+                               "     0\n"
                                "  1441     0     1     1\n";
 static const char journal[] = "     4     3     2\n"
                               "     4     9     2\n"
@@ -142,18 +144,21 @@ static const char answers[] = "     0\n"
                               "     6\n"
                               "     0    50     1    50    10\n";
 static const char written[] = "     2     3\n"
+                              "     0     0\n"
                               "    30     1     2     1     2\n"
                               "    20     1     1     1\n"
                               "    10     2     2     1     2\n";
 
 /* what balance and settle leave of the sheet above, and their one record */
 static const char planned[] = "     2     3\n"
+                              "     0     0\n"
                               "    30     2     2     1     2\n"
                               "    20     1     1     1\n"
                               "    10     1     2     1     2\n";
 static const bankplan_move first_goes[] = {{1, 1, 2}};
 /* settling moves batch 2 away and back, and batch 4 in between */
 static const char returning[] = "     3     4\n"
+                                "     0     0     0\n"
                                 "     1     3     1     3\n"
                                 "     4     3     2     2     3\n"
                                 "     2     2     1     2\n"
@@ -161,6 +166,7 @@ static const char returning[] = "     3     4\n"
 static const bankplan_move fourth_goes[] = {{4, 3, 1}};
 /* balance leaves it, with a group of two; settling moves two batches */
 static const char unsettled[] = "     2     4\n"
+                                "     0     0\n"
                                 "     2     2     1     2\n"
                                 "     4     1     2     2     1\n"
                                 "     5     1     2     2     1\n"
@@ -170,21 +176,22 @@ static const bankplan_move two_go[] = {{2, 1, 2}, {4, 2, 1}};
 static void sheets(void)
 {
     CHECK(answered(plan(sheet, ROOM), 0, 0, strlen(listing)) && holds(listing));
-    CHECK(answered(plan(too_long, ROOM), BANKPLAN_BAD_LENGTH, 2, 0) && holds(""));
+    CHECK(answered(plan(too_long, ROOM), BANKPLAN_BAD_LENGTH, 3, 0) && holds(""));
     CHECK(answered(plan("", ROOM), BANKPLAN_MALFORMED, 1, 0) && holds(""));
     CHECK(answered(plan("     2     1\n", ROOM), BANKPLAN_MALFORMED, 2, 0) && holds(""));
+    CHECK(answered(plan("     2     1\n     0     0\n", ROOM), BANKPLAN_MALFORMED, 3, 0) && holds(""));
     CHECK(answered(plan("    25     0\n", ROOM), BANKPLAN_BAD_SIZE, 1, 0) && holds(""));
-    CHECK(answered(plan("     2     1\n    10     0     2     1     1\n", ROOM), BANKPLAN_BAD_LIST, 2, 0) && holds(""));
-    CHECK(answered(plan("     2     1\n    10     2     1     1\n", ROOM), BANKPLAN_BAD_PLACE, 2, 0) && holds(""));
+    CHECK(answered(plan("     2     1\n     0     0\n    10     0     2     1     1\n", ROOM), BANKPLAN_BAD_LIST, 3, 0) && holds(""));
+    CHECK(answered(plan("     2     1\n     0     0\n    10     2     1     1\n", ROOM), BANKPLAN_BAD_PLACE, 3, 0) && holds(""));
     /* a blank place is none given; five blanks, and a blank elsewhere, are not of the form */
-    CHECK(answered(plan("     2     1\n    10           2     2     1\n", ROOM), 0, 0, 43 + 7 + 19) &&
+    CHECK(answered(plan("     2     1\n     0     0\n    10           2     2     1\n", ROOM), 0, 0, 43 + 7 + 19) &&
           holds("    10    10     0     0     0           0\n     0\n     1     2    10\n"));
-    CHECK(answered(plan("     2     1\n    10     ", ROOM), BANKPLAN_MALFORMED, 2, 0) && holds(""));
-    CHECK(answered(plan("     2     1\n           1     1     1\n", ROOM), BANKPLAN_MALFORMED, 2, 0) && holds(""));
-    CHECK(answered(plan("     2     1\n    10     1           1\n", ROOM), BANKPLAN_MALFORMED, 2, 0) && holds(""));
+    CHECK(answered(plan("     2     1\n     0     0\n    10     ", ROOM), BANKPLAN_MALFORMED, 3, 0) && holds(""));
+    CHECK(answered(plan("     2     1\n     0     0\n           1     1     1\n", ROOM), BANKPLAN_MALFORMED, 3, 0) && holds(""));
+    CHECK(answered(plan("     2     1\n     0     0\n    10     1           1\n", ROOM), BANKPLAN_MALFORMED, 3, 0) && holds(""));
     /* a sheet's fault comes before a short buffer */
-    CHECK(answered(plan(too_long, 0), BANKPLAN_BAD_LENGTH, 2, 0) && holds(""));
-    CHECK(answered(write_back(too_long, "", 0), BANKPLAN_BAD_LENGTH, 2, 0) && holds(""));
+    CHECK(answered(plan(too_long, 0), BANKPLAN_BAD_LENGTH, 3, 0) && holds(""));
+    CHECK(answered(write_back(too_long, "", 0), BANKPLAN_BAD_LENGTH, 3, 0) && holds(""));
     CHECK(answered(write_back("", "", ROOM), BANKPLAN_MALFORMED, 1, 0) && holds(""));
 }
 
@@ -194,10 +201,50 @@ static void written_sheets(void)
     CHECK(answered(write_back(sheet, journal, ROOM), 0, 0, strlen(written)) && holds(written));
     CHECK(answered(write_back(written, "", ROOM), 0, 0, strlen(written)) && holds(written));
     /* no batch is left */
-    CHECK(answered(write_back(sheet, "     2     3\n     2     2\n     2     1\n", ROOM), 0, 0, 13) && holds("     2     0\n"));
+    CHECK(answered(write_back(sheet, "     2     3\n     2     2\n     2     1\n", ROOM), 0, 0, 26) &&
+          holds("     2     0\n     0     0\n"));
     /* places that are 0 or blank are filled in, and lists keep their order */
-    CHECK(answered(write_back("     2     2\n    10           2     2     1\n    15     0     1     1\n", "", ROOM), 0, 0, 13 + 31 + 25) &&
-          holds("     2     2\n    10     2     2     2     1\n    15     1     1     1\n"));
+    CHECK(answered(write_back("     2     2\n     0   240\n    10           2     2     1\n    15     0     1     1\n", "", ROOM), 0, 0,
+                   13 + 13 + 31 + 25) &&
+          holds("     2     2\n     0   240\n    10     2     2     2     1\n    15     1     1     1\n"));
+}
+
+/* Line 2 at its edges, and what calibrations count for. */
+static void calibrations(void)
+{
+    static const char most[] = "     2     0\n   240   239\n";
+    static const char first[] = "     2     0\n   241    0x";
+    static const char last[] = "     2     0\n     0   241\n";
+    bankplan_balanced b;
+    bankplan_settled z;
+
+    /* without a batch the finish and the floor are the longest calibration */
+    CHECK(answered(plan(most, ROOM), 0, 0, 43 + 7) && holds("   240   240     0     0     0           0\n     0\n"));
+    CHECK(answered(write_back(most, "     2     1\n", ROOM), 0, 0, strlen(most)) && holds(most));
+    CHECK(answered(run(most, "     5\n     6   479\n     6   480\n", ROOM), 0, 0, 31 + 25 + 7) &&
+          holds("     0   240     0   240   239\n     0     1     0     0\n     8\n"));
+    b = balance(most, 0, strlen(most));
+    CHECK(b.refusal == 0 && b.finish == 240 && b.floor == 240 && b.level == 0 && b.size == 0 && b.records == 0 && holds(most));
+    z = settle(most, 0, strlen(most));
+    CHECK(z.refusal == 0 && z.finish == 240 && z.moves == 0 && z.records == 0 && holds(most));
+    /* judged at its own field, before the next one and before the LF */
+    CHECK(answered(plan(first, ROOM), BANKPLAN_BAD_CALIBRATION, 2, 0) && holds(""));
+    CHECK(answered(plan(last, 0), BANKPLAN_BAD_CALIBRATION, 2, 0) && holds(""));
+    CHECK(answered(run(last, "\n", ROOM), BANKPLAN_BAD_CALIBRATION, 2, 0) && holds(""));
+    CHECK(answered(write_back(last, "", 0), BANKPLAN_BAD_CALIBRATION, 2, 0) && holds(""));
+    CHECK(refused_balance(balance(last, 0, 0), BANKPLAN_BAD_CALIBRATION, 2));
+    CHECK(refused_settle(settle(last, ENTRIES, ROOM), BANKPLAN_BAD_CALIBRATION, 2));
+    /* a blank, a field too few and one too many, and a sheet without line 2 */
+    CHECK(answered(plan("     2     0\n     0      \n", ROOM), BANKPLAN_MALFORMED, 2, 0) && holds(""));
+    CHECK(answered(plan("     2     0\n     0\n", ROOM), BANKPLAN_MALFORMED, 2, 0) && holds(""));
+    CHECK(answered(plan("     2     0\n     0     0     0\n", ROOM), BANKPLAN_MALFORMED, 2, 0) && holds(""));
+    CHECK(answered(plan("     2     0\n", ROOM), BANKPLAN_MALFORMED, 2, 0) && holds(""));
+    CHECK(answered(plan("     2     1\n    30     1     2     1     2\n", ROOM), BANKPLAN_MALFORMED, 2, 0) && holds(""));
+    CHECK(answered(plan("     2     0\n     0     0\n ", ROOM), BANKPLAN_MALFORMED, 3, 0) && holds(""));
+    /* one batch of 20 and calibrations 10, 0 and 10: in the trial the first calibration is bumped and goes back, and is no place */
+    CHECK(answered(run("     3     1\n    10     0    10\n    20     3     3     1     2     3\n", "     6     0\n     7     1\n", ROOM), 0, 0,
+                   31 + 67) &&
+          holds("     0     1     5     6     2\n     0    20    20     0     5     6     0     1     1     3     2\n"));
 }
 
 static void short_buffers(void)
@@ -231,12 +278,12 @@ static void journals(void)
     CHECK(answered(run(sheet, "     1    10     2     1\n", ROOM), BANKPLAN_BAD_JOURNAL, 1, 0) && holds(""));
     CHECK(answered(run(sheet, "     5\n     4     1      \n", ROOM), BANKPLAN_BAD_JOURNAL, 2, 0) && holds(""));
     /* a sheet's fault comes before a journal's, and that before a short buffer */
-    CHECK(answered(run(too_long, "\n", ROOM), BANKPLAN_BAD_LENGTH, 2, 0) && holds(""));
+    CHECK(answered(run(too_long, "\n", ROOM), BANKPLAN_BAD_LENGTH, 3, 0) && holds(""));
     CHECK(answered(run(sheet, "\n", 0), BANKPLAN_BAD_JOURNAL, 1, 0) && holds(""));
     CHECK(answered(write_back(sheet, "     4     3     2\n     7     3", ROOM), BANKPLAN_BAD_JOURNAL, 2, 0) && holds(""));
     CHECK(answered(write_back(sheet, "     7     2\n", ROOM), 0, 0, strlen(sheet)) && holds(sheet));
     CHECK(answered(write_back(sheet, "     8     3\n", ROOM), 0, 0, strlen(planned)) && holds(planned));
-    CHECK(answered(write_back(too_long, "\n", ROOM), BANKPLAN_BAD_LENGTH, 2, 0) && holds(""));
+    CHECK(answered(write_back(too_long, "\n", ROOM), BANKPLAN_BAD_LENGTH, 3, 0) && holds(""));
     CHECK(answered(write_back(sheet, "\n", 0), BANKPLAN_BAD_JOURNAL, 1, 0) && holds(""));
 }
 
@@ -254,7 +301,7 @@ static int settled_first(bankplan_settled z)
 
 static void files(void)
 {
-    static const char empty[] = "     2     0\n";
+    static const char empty[] = "     2     0\n     0     0\n";
     static const size_t enough[] = {3, 4, ENTRIES};
     bankplan_balanced b;
     bankplan_settled z;
@@ -301,15 +348,15 @@ static void refused_files(void)
         CHECK(refused_settle(settle(sheet, ENTRIES, room), BANKPLAN_BUFFER_SHORT, 0));
     }
     /* a sheet's fault comes before both */
-    CHECK(refused_balance(balance(too_long, ENTRIES, ROOM), BANKPLAN_BAD_LENGTH, 2));
-    CHECK(refused_balance(balance(too_long, 0, ROOM), BANKPLAN_BAD_LENGTH, 2));
-    CHECK(refused_settle(settle(too_long, ENTRIES, 0), BANKPLAN_BAD_LENGTH, 2));
-    CHECK(refused_settle(settle(too_long, 0, 0), BANKPLAN_BAD_LENGTH, 2));
+    CHECK(refused_balance(balance(too_long, ENTRIES, ROOM), BANKPLAN_BAD_LENGTH, 3));
+    CHECK(refused_balance(balance(too_long, 0, ROOM), BANKPLAN_BAD_LENGTH, 3));
+    CHECK(refused_settle(settle(too_long, ENTRIES, 0), BANKPLAN_BAD_LENGTH, 3));
+    CHECK(refused_settle(settle(too_long, 0, 0), BANKPLAN_BAD_LENGTH, 3));
     CHECK(refused_balance(balance("", 0, 0), BANKPLAN_MALFORMED, 1));
     CHECK(refused_settle(settle("", ENTRIES, ROOM), BANKPLAN_MALFORMED, 1));
     CHECK(refused_balance(balance("    25     0\n", ENTRIES, ROOM), BANKPLAN_BAD_SIZE, 1));
-    CHECK(refused_settle(settle("     2     1\n    10     0     2     1     1\n", ENTRIES, ROOM), BANKPLAN_BAD_LIST, 2));
-    CHECK(refused_balance(balance("     2     1\n    10     2     1     1\n", ENTRIES, ROOM), BANKPLAN_BAD_PLACE, 2));
+    CHECK(refused_settle(settle("     2     1\n     0     0\n    10     0     2     1     1\n", ENTRIES, ROOM), BANKPLAN_BAD_LIST, 3));
+    CHECK(refused_balance(balance("     2     1\n     0     0\n    10     2     1     1\n", ENTRIES, ROOM), BANKPLAN_BAD_PLACE, 3));
 }
 
 /* Sheet and buffer start at any byte. */
@@ -337,12 +384,15 @@ static void odd_places(void)
     }
 }
 
-/* 200 batches at this place that any of 24 instruments may run. */
+/* 24 calibrations, and 200 batches at this place that any of 24 instruments may run. */
 static void fill(char *to, int place)
 {
     int batch, instrument;
 
     to += sprintf(to, "%6d%6d\n", BANKPLAN_MOST_INSTRUMENTS, BANKPLAN_MOST_BATCHES);
+    for (instrument = 1; instrument <= BANKPLAN_MOST_INSTRUMENTS; instrument++)
+        to += sprintf(to, "%6d", BANKPLAN_MOST_CALIBRATION);
+    to += sprintf(to, "\n");
     for (batch = 1; batch <= BANKPLAN_MOST_BATCHES; batch++) {
         to += sprintf(to, "%6d%6d%6d", BANKPLAN_MOST_MINUTES, place, BANKPLAN_MOST_INSTRUMENTS);
         for (instrument = BANKPLAN_MOST_INSTRUMENTS; instrument >= 1; instrument--)
@@ -364,8 +414,9 @@ static void largest(void)
     CHECK(strlen(filled) == BANKPLAN_LARGEST_SHEET);
     CHECK(answered(plan(full, BANKPLAN_LARGEST_LISTING - 1), BANKPLAN_BUFFER_SHORT, 0, 0) && holds(""));
     CHECK(answered(plan(full, BANKPLAN_LARGEST_LISTING), 0, 0, BANKPLAN_LARGEST_LISTING));
-    CHECK(answered(run(full, "     6288000\n", 6 * (4 + 200)), BANKPLAN_BUFFER_SHORT, 0, 0) && holds(""));
-    CHECK(answered(run(full, "     6288000\n", 6 * (4 + 200) + 1), 0, 0, 6 * (4 + 200) + 1));
+    CHECK(answered(run(full, "     6293760\n", 6 * (4 + 200)), BANKPLAN_BUFFER_SHORT, 0, 0) && holds(""));
+    CHECK(answered(run(full, "     6293760\n", 6 * (4 + 200) + 1), 0, 0, 6 * (4 + 200) + 1));
+    CHECK(answered(run(full, "     6293761\n", ROOM), 0, 0, 7) && holds("     8\n"));
     CHECK(answered(write_back(full, "", BANKPLAN_LARGEST_SHEET - 1), BANKPLAN_BUFFER_SHORT, 0, 0) && holds(""));
     CHECK(answered(write_back(full, "", BANKPLAN_LARGEST_SHEET), 0, 0, BANKPLAN_LARGEST_SHEET) && holds(filled));
     CHECK(answered(write_back(full, "     1    10     1     1\n", ROOM), 0, 0, BANKPLAN_LARGEST_SHEET) && holds(filled));
@@ -390,6 +441,7 @@ int main(void)
 {
     sheets();
     written_sheets();
+    calibrations();
     short_buffers();
     journals();
     files();

@@ -11,14 +11,14 @@ use Rattle.rules.specs.Fold.{_and_}
 use Rattle.theory.proofs.Heights.{at-zeros}
 use Rattle.arrays.specs.Sets.{SetOf, SetsOf}
 
-pub filled-none : (flags : List ℕ) (m : ℕ) → SetsOf flags m 0 (replicate 200 0)
+pub filled-none : (flags : List ℕ) (m : ℕ) → SetsOf flags m 0 (replicate 224 0)
 filled-none flags m = record {
-  long = length-replicate {A = ℕ} 200 0;
+  long = length-replicate {A = ℕ} 224 0;
   each = λ b h. absurd (omega arith);
-  small = λ b. rw (at-zeros 200 (suc b)) (lit< tt);
+  small = λ b. rw (at-zeros 224 (suc b)) (lit< tt);
 }
 
-pub filled-one : (flags : List ℕ) (m b : ℕ) (sets : List ℕ) (x : ℕ) → b < 200 → SetsOf flags m b sets
+pub filled-one : (flags : List ℕ) (m b : ℕ) (sets : List ℕ) (x : ℕ) → b < 224 → SetsOf flags m b sets
     → SetOf (λ j. leb j m and eqb (getD flags (b * 24 + (j - 1)) 0) 1) x → SetsOf flags m (b + 1) (set sets b x)
 filled-one flags m b sets x h v s = record {
   long = length-set sets b x ∙ v .long;

@@ -13,7 +13,7 @@ pub record Reads (I : Instance) (m c : ℕ) (lengths sets : List ℕ) : Type 0 w
   pub machines : I .m ≡ m
   pub jobs : n I ≡ c
   pub few : m ≤ 24
-  pub most : c ≤ 200
+  pub most : c ≤ 224
   pub minutes : (b : ℕ) → 0 < b → b ≤ c → at lengths b ≡ minutesOf I b
   pub masks : (b i : ℕ) → 0 < b → b ≤ c → 0 < i → i ≤ 24 → has (at sets b) i ≡ eligible I b i
   pub words : (b : ℕ) → at sets b < 2 ^ 24

@@ -18,6 +18,6 @@ pub record SetOf (p : ℕ → Bool) (x : ℕ) : Type 0 where
 
 -- the first c entries of sets are the machines that flags name, 24 flags an entry; every entry is a set
 pub record SetsOf (flags : List ℕ) (m c : ℕ) (sets : List ℕ) : Type 0 where
-  pub long : length sets ≡ 200
+  pub long : length sets ≡ 224
   pub each : (b : ℕ) → b < c → SetOf (λ j. leb j m and eqb (getD flags (b * 24 + (j - 1)) 0) 1) (getD sets b 0)
   pub small : (b : ℕ) → getD sets b 0 < 2 ^ 24

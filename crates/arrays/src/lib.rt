@@ -2,7 +2,10 @@
 pub mod scan;
 pub mod sets;
 
-// The most machines and the most jobs of an instance, as the lengths of arrays.
+// The most machines and the most jobs of an instance, as the lengths of arrays: 24 instruments; 200 batches, and a calibration for each
+// instrument. And the marks of all jobs, one for each machine.
 pub const MACHINES: usize = 24;
 
-pub const JOBS: usize = 200;
+pub const JOBS: usize = 224;
+
+pub const MARKS: usize = JOBS * MACHINES;

@@ -7,7 +7,7 @@ ghost use Rattle.rules.specs.Fold.{pick, at, maxTo, sumTo};
 
 // The minutes of the first n jobs.
 pub fn total_of(minutes: &[u16], n: usize) -> u32
-    requires { ⌜ (n ≤ 200) × (n ≤ length (now minutes)) ⌝ }
+    requires { ⌜ (n ≤ 224) × (n ≤ length (now minutes)) ⌝ }
     ensures { λ r. ⌜ r ≡ sumTo n (λ b. at (now (minutes .entry)) b) ⌝ }
 {
     let mut sum: u32 = 0;
@@ -55,7 +55,7 @@ pub fn largest_load(loads: &[u32], m: usize) -> u32
 
 // The load of each machine: entry i for machine i, 0 past machine `m`.
 pub fn loads_of(minutes: &[u16], places: &[u8], n: usize, m: usize) -> [u32; 24]
-    requires { ⌜ (n ≤ 200) × (n ≤ length (now minutes)) × (n ≤ length (now places)) × (m ≤ 24) ⌝ }
+    requires { ⌜ (n ≤ 224) × (n ≤ length (now minutes)) × (n ≤ length (now places)) × (m ≤ 24) ⌝ }
     ensures { λ r. ⌜ ((i : ℕ) → 0 < i → i ≤ m → at r i ≡ sumTo n (λ b. pick (eqb (at (now (places .entry)) b) i) (at (now (minutes .entry)) b) 0))
         × ((i : ℕ) → m < i → i ≤ 24 → at r i ≡ 0) ⌝ }
 {

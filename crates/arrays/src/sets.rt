@@ -33,7 +33,7 @@ pub fn mask_at(eligible: &[u8], base: usize, m: usize) -> u32
 
 // The machines that each of n jobs may run on, as sets, from a byte for each machine, 24 to a job.
 pub fn masks_of(eligible: &[u8], n: usize, m: usize) -> [u32; JOBS]
-    requires { ⌜ (n ≤ 200) × (m ≤ 24) × (length (now eligible) ≡ 4800) ⌝ }
+    requires { ⌜ (n ≤ 224) × (m ≤ 24) × (length (now eligible) ≡ 5376) ⌝ }
     ensures { λ r. ⌜ SetsOf (now (eligible .entry)) m n r ⌝ }
 {
     let mut out = [0u32; JOBS];

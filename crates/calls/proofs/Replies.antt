@@ -9,15 +9,13 @@ use lib.Seq.{take-at}
 use borrow.Author.Tests.{le-leb, lt-leb}
 use Rattle.rules.specs.Fold.{thoseTo}
 use Rattle.rules.specs.Sheet.{Book, size}
-use Rattle.rules.specs.Instance.{instance, places, n}
 use Rattle.rules.specs.Lent.{atFront}
 use Rattle.rules.specs.Moves as M
 use Rattle.rules.specs.Moves.{records, moveNumbers}
 use Rattle.rules.specs.Run.{Answer, answer, next, answerNumbers, roomy, recordsTo, balanceBook, settleBook, balanceAnswer, settleAnswer}
-use Rattle.theory.proofs.Sound.{jobs-count}
 use Rattle.sheet.specs.declared.Sheet.{Sheet}
 use Rattle.sheet.specs.declared.Refusal.the-variants.{Nothing, BufferShort}
-use Rattle.sheet.specs.Represent.{Sound, padded, bookOf}
+use Rattle.sheet.specs.Represent.{Sound, bookOf}
 use Rattle.sheet.proofs.SoundViews.{view-batches}
 use Rattle.moves.specs.declared.Move.{Move}
 use Rattle.moves.specs.declared.Change.{Change}
@@ -25,7 +23,7 @@ use Rattle.moves.specs.Filled.{moveAs}
 use Rattle.planner.specs.declared.Balanced.{Balanced}
 use Rattle.planner.specs.declared.Settled.{Settled}
 use Rattle.planner.specs.Calls.{balanceOf, settleOf}
-use Rattle.planner.proofs.Changes.{balance-change, settle-change}
+use Rattle.planner.proofs.Changes.{placesIn, balance-change, settle-change}
 use Rattle.calls.specs.declared.cores.Balancing.{Balancing}
 use Rattle.calls.specs.declared.cores.Settling.{Settling}
 use Rattle.calls.specs.Lent.{noBalance, noSettle, balanceReply, settleReply, balanceAs, settleAs, listNumbers, balanceNumbers, settleNumbers, lentAfter, BalanceAnswered, SettleAnswered, ChangeIs, BalancingIs, SettlingIs}
@@ -37,16 +35,16 @@ module _ (s : Sheet) (v : Sound s) (c : ℕ) where
   k = bookOf s
 
   few : size k ≤ 200
-  few = omega (arith, view-batches s v, jobs-count k)
+  few = view-batches s v
 
   -- no record at all
   none : (old new : List ℕ) → records 0 old new ≡ []
   unfolding records thoseTo
   none old new = refl
 
-  module _ (h : c < n (instance k)) where
+  module _ (h : c < size k) where
     short : roomy k c ≡ false
-    short = lt-leb (size k) c (omega (arith, jobs-count k))
+    short = lt-leb (size k) c h
 
     pub balance-short : (old : List ℕ)
         → BalancingIs k c (record { reply = noBalance BufferShort s; change = record { old = old; new = old; n = 0 } })
@@ -64,11 +62,11 @@ module _ (s : Sheet) (v : Sound s) (c : ℕ) where
       change = record { few = omega arith; room = omega arith; records = rw short (none old old) };
     }
 
-  module _ (i : ℕ) (old new : List ℕ) (e : i ≡ n (instance k)) (f : old ≡ padded 200 (places k)) (h : i ≤ c) (count : ℕ) (q : count ≡ length (records i old new)) where
+  module _ (i : ℕ) (old new : List ℕ) (e : i ≡ size k) (f : old ≡ placesIn s) (h : i ≤ c) (count : ℕ) (q : count ≡ length (records i old new)) where
     enough : roomy k c ≡ true
-    enough = le-leb (size k) c (omega (arith, jobs-count k))
+    enough = le-leb (size k) c (omega arith)
 
-    pub balance-long : (b : Balanced) → b ≡ balanceOf k → new ≡ padded 200 (places (bookOf (b .sheet)))
+    pub balance-long : (b : Balanced) → b ≡ balanceOf k → new ≡ placesIn (b .sheet)
         → BalancingIs k c (record {
           reply = record {
             refusal = Nothing;
@@ -92,7 +90,7 @@ module _ (s : Sheet) (v : Sound s) (c : ℕ) where
           change = record { few = omega (arith, view-batches s v); room = h; records = rw enough l };
         }
 
-    pub settle-long : (z : Settled) → z ≡ settleOf k → new ≡ padded 200 (places (bookOf (z .sheet)))
+    pub settle-long : (z : Settled) → z ≡ settleOf k → new ≡ placesIn (z .sheet)
         → SettlingIs k c (record {
           reply = record { refusal = Nothing; makespan = z .makespan; moves = z .moves; records = count; sheet = z .sheet };
           change = record { old = old; new = new; n = i };

@@ -7,7 +7,7 @@ use native.Mathlib.Nat.{le-refl}
 use native.Mathlib.Omega.{arith}
 use lib.Dec.{leb, ltb, eqb}
 use borrow.Author.Tests.{eqb-true, eqb-false}
-use lib.ListN.{length, getD, take, drop, length-append, length-drop}
+use lib.ListN.{length, getD, take, drop, length-append, length-take, length-drop}
 use lib.Seq.{length-take-le}
 use Rattle.rules.specs.Fold.{at, thoseTo}
 use Rattle.rules.specs.Refusal as N
@@ -19,7 +19,7 @@ use Rattle.rules.specs.Trial.{atLevel, ended}
 use Rattle.rules.specs.Group as G
 use Rattle.rules.specs.Sheet.{size}
 use Rattle.rules.specs.Moves.{Move, records, moveNumbers, moveOf}
-use Rattle.rules.specs.Run.{Call, Answer, refused, done, reviewed, tried, balanced, settled, answer, answerNumbers, recordNumbers, recordsTo, editAnswer, tryAnswer, roomy, balanceAnswer, settleAnswer, balanceBook, settleBook}
+use Rattle.rules.specs.Run.{Call, Answer, refused, done, reviewed, tried, balanced, settled, answer, answerNumbers, recordNumbers, recordsTo, editAnswer, shown, tryAnswer, roomy, balanceAnswer, settleAnswer, balanceBook, settleBook}
 use Rattle.rules.specs.Run as R
 use Rattle.rules.specs.Journal.{answerLine}
 use Rattle.theory.proofs.Refusal.{number-range}
@@ -35,13 +35,14 @@ use Rattle.theory.proofs.Balancing.{Showing, unfailed, showed}
 use Rattle.theory.proofs.Planning.{balanced-showing, balanced-permitted, rested-permitted}
 use Rattle.theory.proofs.Records.{records-same, records-other, records-few}
 use Rattle.theory.proofs.Member.{every-append}
-use Rattle.theory.proofs.Sound.{jobs-count}
+use Rattle.theory.proofs.Jobs.{batches-first}
 use Rattle.theory.proofs.Field.{columns-length}
 use Rattle.sheet.specs.declared.Sheet.{Sheet}
 use Rattle.sheet.specs.Represent.{Sound, bookOf}
 use Rattle.theory.proofs.Entries.{length-listTo}
 use Rattle.sheet.proofs.SoundViews.{view-instruments, view-batches, view-valid, view-permitted, view-small}
 use Rattle.theory.proofs.Fields.{fields-length, line-length}
+use Rattle.planner.proofs.Changes.{at-front}
 use Rattle.planner.proofs.Figures.{balance-fits, settle-fits, group-few}
 use Rattle.journal.specs.Answering.{isSettle, lineOf, lineLength, SixColumns, Fitting}
 use Rattle.journal.proofs.Recording.{numbers-append, numbers-length}
@@ -94,11 +95,11 @@ module _ (s : Sheet) (v : Sound s) where
       (omega (arith, length-listTo (i .m) (λ j. load i y j), machines))
       (small-more 0 _ (omega arith)
       (small-more (w .makespan) _ (omega (arith, most))
-      (small-more (w .improving) _ (omega (arith, first-le (first (n i) (λ b. improves i y b)), view-batches s v))
+      (small-more (w .improving) _ (omega (arith, first-le (first (n i) (λ b. improves i y b)), view-small s v .jobs))
       (small-to (i .m) (λ j. load i y j) (λ j. omega (arith, few j))))))
 
   tried-fits : (a : ℕ) {t : G.Tried} → Outcome (instance (bookOf s)) (places (bookOf s)) (view-valid s v) (view-permitted s v) a t
-      → Fitting false (answerNumbers (tried t))
+      → Fitting false (answerNumbers (tried (shown (size (bookOf s)) t)))
   tried-fits a o =
       let i = instance (bookOf s) in
       let y = places (bookOf s) in
@@ -111,14 +112,16 @@ module _ (s : Sheet) (v : Sound s) where
       from : {t : G.Tried} → Outcome (instance (bookOf s)) (places (bookOf s)) (view-valid s v) (view-permitted s v) a t
           → ended (instance (bookOf s)) (places (bookOf s)) a .lifts < 1000000
           → ended (instance (bookOf s)) (places (bookOf s)) a .pushes < 1000000
-          → Fitting false (answerNumbers (tried t))
+          → Fitting false (answerNumbers (tried (shown (size (bookOf s)) t)))
       from (passes q) l p =
           let e = ended (instance (bookOf s)) (places (bookOf s)) a in
           let w = trial-permitted (instance (bookOf s)) (places (bookOf s)) (view-valid s v) (view-permitted s v) (atLevel (instance (bookOf s)) a) in
-          plain (0 ∷ 1 ∷ e .lifts ∷ e .pushes ∷ e .assignment)
-          (omega (arith, w .size, view-batches s v))
+          let x : List ℕ = take (size (bookOf s)) (e .assignment) in
+          let few : length x ≤ size (bookOf s) = omega (arith, length-take (size (bookOf s)) (e .assignment)) in
+          plain (0 ∷ 1 ∷ e .lifts ∷ e .pushes ∷ x)
+          (omega (arith, few, view-batches s v))
           (small-more 0 _ (omega arith) (small-more 1 _ (omega arith) (small-more (e .lifts) _ l (small-more (e .pushes) _ p
-          (small-by (e .assignment) (λ b g h. omega (arith, on-machine (view-valid s v) w b g (omega (arith, w .size)) .1, machines)))))))
+          (small-by x (λ b g h. omega (arith, at-front (size (bookOf s)) (e .assignment) b (omega (arith, few)), on-machine (view-valid s v) w b g (omega (arith, few, batches-first (bookOf s))) .1, machines)))))))
       from (fails g f) l p =
           let e = ended (instance (bookOf s)) (places (bookOf s)) a in
           plain (0 ∷ 0 ∷ e .lifts ∷ e .pushes ∷ g)
@@ -132,7 +135,7 @@ module _ (s : Sheet) (v : Sound s) where
 
   -- records: batches, and instruments
   places-small : {x : List ℕ} → Permitted (instance (bookOf s)) x → (b : ℕ) → 0 < b → b ≤ size (bookOf s) → at x b < 1000000
-  places-small w b p q = omega (arith, on-machine (view-valid s v) w b p (omega (arith, jobs-count (bookOf s))) .1, machines)
+  places-small w b p q = omega (arith, on-machine (view-valid s v) w b p (omega (arith, batches-first (bookOf s))) .1, machines)
 
   moves-small : (c : ℕ) (x y : List ℕ) → c ≤ 200 → ((b : ℕ) → 0 < b → b ≤ c → at x b < 1000000)
       → ((b : ℕ) → 0 < b → b ≤ c → at y b < 1000000) → SixColumns (moveNumbers (records c x y))
@@ -153,7 +156,7 @@ module _ (s : Sheet) (v : Sound s) where
     l = recordsTo (bookOf s) x
 
     few-batches : size (bookOf s) ≤ 200
-    few-batches = omega (arith, view-batches s v, jobs-count (bookOf s))
+    few-batches = view-batches s v
 
     few-records : length (recordNumbers l) ≤ 601
     few-records = omega (arith, numbers-length l, records-few (size (bookOf s)) (places (bookOf s)) x, few-batches)

@@ -5,23 +5,22 @@ use mathlib.Core.Bool.{Bool, true, false}
 use mathlib.Core.List.{List, [], _∷_, _++_}
 use native.Mathlib.Omega.{arith}
 use lib.Dec.{leb}
-use lib.ListN.{length, take, replicate}
+use lib.ListN.{length, take, replicate, length-take}
 use lib.Seq.{take-at}
 use borrow.Author.Tests.{le-leb, lt-leb, eq-eqb, ne-eqb}
 use Rattle.rules.specs.Sheet.{Book, size}
 use Rattle.rules.specs.Edit as E
-use Rattle.rules.specs.Instance.{instance, places, n}
+use Rattle.rules.specs.Instance.{instance, places}
 use Rattle.rules.specs.Load.{load, total, review}
 use Rattle.rules.specs.Fold.{listTo}
 use Rattle.rules.specs.Trial.{atLevel, ended}
 use Rattle.rules.specs.Group as G
-use Rattle.rules.specs.Run.{Call, answer, next, answerNumbers, editAnswer, tryAnswer, roomy, balanceAnswer, balanceBook}
+use Rattle.rules.specs.Run.{Call, answer, next, answerNumbers, editAnswer, shown, tryAnswer, roomy, balanceAnswer, balanceBook}
 use Rattle.rules.specs.Run as R
-use Rattle.theory.proofs.Sound.{jobs-count}
 use Rattle.theory.proofs.Trial.{Outcome, passes, fails, outcome, trial-permitted}
 use Rattle.sheet.specs.declared.Sheet.{Sheet}
 use Rattle.sheet.specs.declared.Edited.{Edited}
-use Rattle.sheet.specs.Represent.{Sound, padded, sheetOf, bookOf}
+use Rattle.sheet.specs.Represent.{Sound, sheetOf, bookOf}
 use Rattle.sheet.specs.Answers.{numberOf, editOf}
 use Rattle.theory.proofs.Entries.{length-listTo}
 use Rattle.sheet.proofs.Padded.{length-padded}
@@ -33,7 +32,7 @@ use Rattle.planner.specs.declared.Reviewed.{Reviewed}
 use Rattle.sheet.proofs.Answered.{edit-answered, edit-next}
 use Rattle.planner.specs.Calls.{reviewOf, trialOf, balanceOf, settleOf, trialAnswer, triedAs, ReviewAnswered, TrialAnswered}
 use Rattle.planner.proofs.Figures.{group-few, balance-fits}
-use Rattle.planner.proofs.Changes.{balance-change, settle-change}
+use Rattle.planner.proofs.Changes.{placesIn, balance-change, settle-change}
 use Rattle.moves.specs.declared.Change.{Change}
 use Rattle.journal.specs.Answering.{madeWith, madeOf, isSettle, reviewNumbers, trialNumbers, balancedNumbers, changeNumbers}
 
@@ -96,38 +95,38 @@ module _ (s : Sheet) (v : Sound s) where
   made-edit e r q =
       made (R.editing e) _ false (ap (λ (x : Edited). x .sheet) q ∙ edit-next (bookOf s) s e refl (sym (v .arrays))) (edit-answered q .numbers) (edit-plain (bookOf s) e)
 
-  pub made-review : (r : Reviewed) (m : ℕ) → ReviewAnswered (bookOf s) r → m ≡ instance (bookOf s) .m
+  pub made-review : (r : Reviewed) (m : ℕ) → ReviewAnswered (bookOf s) r → m ≡ bookOf s .m
       → madeWith s (reviewNumbers m r) false ≡ madeOf (bookOf s) R.reviewing
   unfolding next
   made-review r m q e =
       ap (λ (i : ℕ). madeWith s (reviewNumbers i r) false) e ∙ made R.reviewing _ false (sym (v .arrays)) (q .numbers) (review-plain (bookOf s))
 
-  pub made-trial : (a : ℕ) (r : Tried) (c : ℕ) → TrialAnswered (bookOf s) a r → c ≡ n (instance (bookOf s))
+  pub made-trial : (a : ℕ) (r : Tried) (c : ℕ) → TrialAnswered (bookOf s) a r → c ≡ size (bookOf s)
       → madeWith s (trialNumbers c r) false ≡ madeOf (bookOf s) (R.trying a)
   unfolding next
   made-trial a r c q e =
-      ap (λ (i : ℕ). madeWith s (trialNumbers i r) false) (e ∙ jobs-count (bookOf s))
+      ap (λ (i : ℕ). madeWith s (trialNumbers i r) false) e
       ∙ made (R.trying a) _ false (sym (v .arrays)) (q .numbers) (trial-plain (bookOf s) a)
 
   -- ---- balance and settle, where the lent list has c entries
 
   module _ (c : ℕ) where
-    short : c < n (instance (bookOf s)) → roomy (bookOf s) c ≡ false
-    short h = lt-leb (size (bookOf s)) c (omega (arith, jobs-count (bookOf s)))
+    short : c < size (bookOf s) → roomy (bookOf s) c ≡ false
+    short h = lt-leb (size (bookOf s)) c h
 
-    pub balance-short : c < n (instance (bookOf s)) → madeWith s (9 ∷ []) false ≡ madeOf (bookOf s) (R.balancing c)
+    pub balance-short : c < size (bookOf s) → madeWith s (9 ∷ []) false ≡ madeOf (bookOf s) (R.balancing c)
     unfolding answer next
     balance-short h = made (R.balancing c) (9 ∷ []) false (rw (short h) (sym (v .arrays))) (rw (short h)) (rw (short h))
 
-    pub settle-short : c < n (instance (bookOf s)) → madeWith s (9 ∷ []) false ≡ madeOf (bookOf s) (R.settling c)
+    pub settle-short : c < size (bookOf s) → madeWith s (9 ∷ []) false ≡ madeOf (bookOf s) (R.settling c)
     unfolding answer next
     settle-short h = made (R.settling c) (9 ∷ []) false (rw (short h) (sym (v .arrays))) (rw (short h)) (rw (short h))
 
-    module _ (d : Change) (e : d .n ≡ n (instance (bookOf s))) (f : d .old ≡ padded 200 (places (bookOf s))) (h : d .n ≤ c) where
+    module _ (d : Change) (e : d .n ≡ size (bookOf s)) (f : d .old ≡ placesIn s) (h : d .n ≤ c) where
       enough : roomy (bookOf s) c ≡ true
-      enough = le-leb (size (bookOf s)) c (omega (arith, jobs-count (bookOf s)))
+      enough = le-leb (size (bookOf s)) c (omega arith)
 
-      pub made-balance : (b : Balanced) → b ≡ balanceOf (bookOf s) → d .new ≡ padded 200 (places (bookOf (b .sheet)))
+      pub made-balance : (b : Balanced) → b ≡ balanceOf (bookOf s) → d .new ≡ placesIn (b .sheet)
           → madeWith (b .sheet) (balancedNumbers b ++ changeNumbers d) false ≡ madeOf (bookOf s) (R.balancing c)
       unfolding answer next balanceOf
       made-balance b q g =
@@ -135,7 +134,7 @@ module _ (s : Sheet) (v : Sound s) where
           let group = balanceBook (bookOf s) .group in
           made (R.balancing c) (balancedNumbers b ++ changeNumbers d) false (rw (enough, q)) (rw (enough, l, q, take-at group (replicate (24 - length group) 0) (length group) refl)) (rw enough)
 
-      pub made-settle : (z : Settled) → z ≡ settleOf (bookOf s) → d .new ≡ padded 200 (places (bookOf (z .sheet)))
+      pub made-settle : (z : Settled) → z ≡ settleOf (bookOf s) → d .new ≡ placesIn (z .sheet)
           → madeWith (z .sheet) (0 ∷ z .makespan ∷ z .moves ∷ changeNumbers d) true ≡ madeOf (bookOf s) (R.settling c)
       unfolding answer next settleOf
       made-settle z q g =
@@ -152,12 +151,12 @@ module _ (s : Sheet) (v : Sound s) where
       (omega (arith, length-listTo (k .m) (λ i. load (instance k) (places k) i), view-instruments s v .1)))
 
   tried-long : (a : ℕ) {t : G.Tried} → Outcome (instance (bookOf s)) (places (bookOf s)) (view-valid s v) (view-permitted s v) a t
-      → Long (triedAs t)
+      → Long (triedAs (shown (size (bookOf s)) t))
   tried-long a (passes p) =
       let e = ended (instance (bookOf s)) (places (bookOf s)) a in
       let w = trial-permitted (instance (bookOf s)) (places (bookOf s)) (view-valid s v) (view-permitted s v) (atLevel (instance (bookOf s)) a) in
       record {
-        places = length-padded 200 (e .assignment) (omega (arith, w .size, view-batches s v));
+        places = length-padded 200 (take (size (bookOf s)) (e .assignment)) (omega (arith, length-take (size (bookOf s)) (e .assignment), view-batches s v));
         few = omega arith;
         group = refl;
       }

@@ -1,19 +1,18 @@
 -- A plan and the sheet's arrays, as the listing shows them.
-use Prim.Native.Nat.{ℕ, zero, suc, _+_, _-_, _*_, _≤_, _<_, _^_}
+use Prim.Native.Nat.{ℕ, _+_, _-_, _*_, _≤_, _<_, _^_}
 use mathlib.Core.Path.{_≡_, refl, sym, ap, _∙_}
 use mathlib.Core.List.{List, map}
 use native.Mathlib.Omega.{arith}
-use lib.ListN.{length, take, List·getD-map}
+use lib.ListN.{length, take}
 use lib.Seq.{take-at}
-use Rattle.rules.specs.Fold.{at}
-use Rattle.rules.specs.Sheet.{Book, size, batch, noBatchHere}
-use Rattle.rules.specs.Instance.{Job, n, jobOf, instance, minutesOf}
+use Rattle.rules.specs.Sheet.{Book, Batch, size}
+use Rattle.rules.specs.Instance.{instance}
 use Rattle.rules.specs.Instance as In
 use Rattle.rules.specs.Plan.{Plan, plan}
 use Rattle.rules.specs.Run.{withPlaces, balanceBook}
 use Rattle.rules.specs.Listing.{planBook, listing}
 use Rattle.theory.proofs.Valid.{Permitted}
-use Rattle.theory.proofs.Sound.{jobs-count, placed-places, placed-again}
+use Rattle.theory.proofs.Jobs.{batches-first, placed-at, placed-again}
 use Rattle.theory.proofs.Planning.{balanced-permitted, rested-permitted}
 use Rattle.theory.proofs.Runs.{settle-placed}
 use Rattle.sheet.specs.declared.Sheet.{Sheet}
@@ -23,7 +22,7 @@ use Rattle.sheet.proofs.SoundViews.{minutes-at, view-batches, view-valid, view-
 use Rattle.planner.specs.declared.Balanced.{Balanced}
 use Rattle.planner.specs.declared.Settled.{Settled}
 use Rattle.planner.specs.Calls.{balanceOf, settleOf}
-use Rattle.planner.proofs.Changes.{at-padded}
+use Rattle.planner.proofs.Changes.{at-padded, at-front, placesIn}
 use Rattle.planner.proofs.Figures.{balance-fits, small-rest}
 use Rattle.listing.specs.declared.plan.Planned.{Planned}
 use Rattle.listing.specs.Planned.{planOf}
@@ -32,16 +31,12 @@ use Rattle.listing.proofs.Lines.{listing-of, listing-length}
 
 -- ---- arrays that are longer than what they hold
 
-minutes-of : (k : Book) (b : ℕ) → minutesOf (instance k) b ≡ batch k b .minutes
-minutes-of k zero = refl
-minutes-of k (suc b) = ap (λ (j : Job). j .minutes) (List·getD-map jobOf (k .batches) b noBatchHere)
-
 -- the listing from arrays
 text-of : (k : Book) (p : Plan)
-    → listingText (figures (p .makespan) (p .lowerBound) (p .level) (p .lifts) (p .pushes) (p .moves)) (p .group) (size k) (padded 200 (map (λ (j : Job). j .minutes) (instance k .jobs))) (padded 200 (p .assignment))
+    → listingText (figures (p .makespan) (p .lowerBound) (p .level) (p .lifts) (p .pushes) (p .moves)) (p .group) (size k) (padded 200 (map (λ (b : Batch). b .minutes) (k .batches))) (padded 200 (take (size k) (p .assignment)))
     ≡ listing k p
 text-of k p =
-    listing-of k p _ _ (λ b l u. (at-padded 200 (p .assignment) b, minutes-at (instance k) b ∙ minutes-of k b))
+    listing-of k p _ _ (λ b l u. (at-padded 200 (take (size k) (p .assignment)) b ∙ at-front (size k) (p .assignment) b u, minutes-at k b))
 
 -- ---- a sound sheet, planned
 
@@ -95,14 +90,16 @@ module _ (s : Sheet) (v : Sound s) where
   plan-made b z e f =
       let k = bookOf s in
       let x = balanceBook k .assignment in
-      let again = placed-again k x (planBook k .assignment) (new-permitted .size ∙ jobs-count k) in
+      let again = placed-again k x (planBook k .assignment) (omega (arith, new-permitted .size, batches-first k)) in
       rw (f, e, view-placed-book s v x middle-permitted, settle-placed k x middle-permitted, again)
 
   -- the places that its new sheet holds
-  new-places : In.places (bookOf (sheetOf (withPlaces (bookOf s) (planBook (bookOf s) .assignment)))) ≡ planBook (bookOf s) .assignment
+  new-places : placesIn (sheetOf (withPlaces (bookOf s) (planBook (bookOf s) .assignment)))
+      ≡ padded 200 (take (size (bookOf s)) (planBook (bookOf s) .assignment))
   new-places =
-      ap In.places (view-placed-book s v _ new-permitted)
-      ∙ placed-places (bookOf s) _ (new-permitted .size ∙ jobs-count (bookOf s))
+      let k = bookOf s in
+      ap (λ (j : Book). padded 200 (map (λ (b : Batch). b .place) (j .batches))) (view-placed-book s v _ new-permitted)
+      ∙ ap (padded 200) (placed-at (k .batches) (planBook k .assignment) (omega (arith, new-permitted .size, batches-first k)))
 
   sound-as : (r : Planned) → r ≡ planOf (bookOf s) → Sound (r .sheet)
   unfolding planOf
@@ -141,10 +138,10 @@ module _ (s : Sheet) (v : Sound s) where
     pub sound : Sound (r .sheet)
     pub inColumns : SmallFigures (planBook (bookOf s))
 
-  pub listed-plan : (r : Planned) (c : ℕ) → r ≡ planOf (bookOf s) → c ≡ n (instance (bookOf s)) → ListedPlan r c
+  pub listed-plan : (r : Planned) (c : ℕ) → r ≡ planOf (bookOf s) → c ≡ size (bookOf s) → ListedPlan r c
   unfolding planOf
   listed-plan r c e f = record {
-    count = f ∙ jobs-count (bookOf s);
+    count = f;
     room = omega (arith, view-batches s v);
     makespan = ap (λ (q : Planned). q .makespan) e;
     bound = ap (λ (q : Planned). q .bound) e;
@@ -168,11 +165,10 @@ module _ (s : Sheet) (v : Sound s) where
       listing-length (bookOf s) (planBook (bookOf s)) ∙ omega (arith, a .size, a .count)
 
   pub listed-text : (r : Planned) (c : ℕ) (minutes places : List ℕ) → ListedPlan r c
-      → minutes ≡ padded 200 (map (λ (j : Job). j .minutes) (instance (bookOf s) .jobs))
-      → places ≡ padded 200 (In.places (bookOf (r .sheet)))
+      → minutes ≡ padded 200 (map (λ (b : Batch). b .minutes) (bookOf s .batches))
+      → places ≡ placesIn (r .sheet)
       → listingText (figures (r .makespan) (r .bound) (r .level) (r .lifts) (r .pushes) (r .moves)) (take (r .size) (r .group)) c minutes places
       ≡ listing (bookOf s) (planBook (bookOf s))
   listed-text r c minutes places a g h =
-      let q : places ≡ padded 200 (planBook (bookOf s) .assignment) =
-      h ∙ ap (λ (t : Sheet). padded 200 (In.places (bookOf t))) (a .sheet) ∙ ap (padded 200) new-places in
+      let q : places ≡ padded 200 (take (size (bookOf s)) (planBook (bookOf s) .assignment)) = h ∙ ap placesIn (a .sheet) ∙ new-places in
       rw (a .makespan, a .bound, a .level, a .lifts, a .pushes, a .moves, a .group, a .count, g, q) (text-of (bookOf s) (planBook (bookOf s)))

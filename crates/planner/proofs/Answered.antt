@@ -1,19 +1,20 @@
 -- An answer of review or a trial that is the rules' is so in document 01's numbers.
 use Prim.Native.Nat.{ℕ, _-_}
-use mathlib.Core.Path.{_≡_, refl, ap, _∙_}
+use mathlib.Core.Path.{_≡_, refl, ap}
 use mathlib.Core.Bool.{Bool, true, false}
 use mathlib.Core.List.{List, _∷_}
+use native.Mathlib.Omega.{arith}
 use lib.ListN.{length, take, replicate}
-use lib.Seq.{take-at}
+use lib.Seq.{take-at, length-take-le}
 use lib.Dec.{leb}
 use Rattle.rules.specs.Sheet.{Book, size, sound}
 use Rattle.rules.specs.Instance.{instance, places}
 use Rattle.rules.specs.Load.{load, review, total}
 use Rattle.rules.specs.Trial.{atLevel, ended}
 use Rattle.rules.specs.Group as G
-use Rattle.rules.specs.Run.{answer, answerNumbers, tryAnswer}
+use Rattle.rules.specs.Run.{answer, answerNumbers, shown, tryAnswer}
 use Rattle.rules.specs.Run as R
-use Rattle.theory.proofs.Sound.{jobs-count, sound-valid, sound-permitted}
+use Rattle.theory.proofs.Jobs.{batches-first, sound-valid, sound-permitted}
 use Rattle.theory.proofs.Trial.{Outcome, passes, fails, outcome, trial-permitted}
 use Rattle.sheet.specs.Represent.{padded}
 use Rattle.theory.proofs.Entries.{length-listTo}
@@ -36,11 +37,11 @@ review-answer k =
 
 module _ (k : Book) (v : sound k ≡ true) where
   tried-numbers : (a : ℕ) {t : G.Tried} → Outcome (instance k) (places k) (sound-valid k v) (sound-permitted k v) a t
-      → trialNumbers k (triedAs t) ≡ answerNumbers (R.tried t)
+      → trialNumbers k (triedAs (shown (size k) t)) ≡ answerNumbers (R.tried (shown (size k) t))
   tried-numbers a (passes p) =
       let w = trial-permitted (instance k) (places k) (sound-valid k v) (sound-permitted k v) (atLevel (instance k) a) in
       let e = ended (instance k) (places k) a in
-      ap (λ (l : List ℕ). 0 ∷ 1 ∷ e .lifts ∷ e .pushes ∷ l) (front 200 (e .assignment) (size k) (w .size ∙ jobs-count k))
+      ap (λ (l : List ℕ). 0 ∷ 1 ∷ e .lifts ∷ e .pushes ∷ l) (front 200 (take (size k) (e .assignment)) (size k) (length-take-le (size k) (e .assignment) (omega (arith, w .size, batches-first k))))
   tried-numbers a (fails g f) =
       let e = ended (instance k) (places k) a in
       ap (λ (l : List ℕ). 0 ∷ 0 ∷ e .lifts ∷ e .pushes ∷ l) (front 24 g (length g) refl)

@@ -1,17 +1,19 @@
 -- The records that lead from a sheet's places to those of the sheet that balance or settle leaves.
-use Prim.Native.Nat.{ℕ, zero, suc, _-_}
-use mathlib.Core.Path.{_≡_, refl, ap, _∙_}
-use mathlib.Core.List.{List}
-use lib.ListN.{length}
+use Prim.Native.Nat.{ℕ, zero, suc, _-_, _≤_}
+use mathlib.Core.Path.{_≡_, refl, sym, ap, _∙_}
+use mathlib.Core.List.{List, map, map-append}
+use native.Mathlib.Omega.{arith}
+use lib.ListN.{length, getD, take, length-map, List·getD-append}
+use lib.Seq.{getD-take}
 use Rattle.rules.specs.Fold.{at}
-use Rattle.rules.specs.Sheet.{Book}
-use Rattle.rules.specs.Instance.{Assignment, instance, places, n}
+use Rattle.rules.specs.Sheet.{Book, Batch, size}
+use Rattle.rules.specs.Instance.{Assignment, calibrationsTo, instance, places}
 use Rattle.rules.specs.Moves.{records}
 use Rattle.rules.specs.Run.{withPlaces, recordsTo, balanceBook, settleBook}
 use Rattle.theory.proofs.Entries.{getD-zeros}
 use Rattle.theory.proofs.Valid.{Permitted}
 use Rattle.theory.proofs.Records.{records-ext}
-use Rattle.theory.proofs.Sound.{jobs-count, placed-places}
+use Rattle.theory.proofs.Jobs.{batches-first, placed-at}
 use Rattle.theory.proofs.Planning.{balanced-permitted, rested-permitted}
 use Rattle.sheet.specs.declared.Sheet.{Sheet}
 use Rattle.sheet.specs.Represent.{Sound, padded, sheetOf, bookOf}
@@ -25,22 +27,41 @@ pub at-padded : (w : ℕ) (l : List ℕ) (b : ℕ) → at (padded w l) b ≡ at 
 at-padded w l zero = refl
 at-padded w l (suc b) = getD-zeros l (w - length l) b
 
+-- the places of a book's batches are the first of its places
+pub front-places : (k : Book) (b : ℕ) → b ≤ size k → at (map (λ (c : Batch). c .place) (k .batches)) b ≡ at (places k) b
+front-places k zero h = refl
+front-places k (suc b) h =
+    let p = map (λ (c : Batch). c .place) (k .batches) in
+    let q = map (λ (c : Batch). c .place) (calibrationsTo (k .calibrations) (k .m)) in
+    sym (ap (λ (l : List ℕ). getD l b 0) (map-append (λ (c : Batch). c .place) (k .batches) (calibrationsTo (k .calibrations) (k .m)))
+    ∙ List·getD-append p q 0 b (omega (arith, length-map (k .batches) (λ (c : Batch). c .place))))
+
+pub at-front : (c : ℕ) (x : List ℕ) (b : ℕ) → b ≤ c → at (take c x) b ≡ at x b
+at-front c x zero h = refl
+at-front c x (suc b) h = getD-take c x b 0 h
+
+-- a sheet's array of places
+abbrev pub placesIn : Sheet → List ℕ
+placesIn s = padded 200 (map (λ (b : Batch). b .place) (bookOf s .batches))
+
 module _ (s : Sheet) (v : Sound s) where
   -- from the arrays of s and of the sheet with the places of x
   placed-change : (x : Assignment) → Permitted (instance (bookOf s)) x → (t : Sheet) → t ≡ sheetOf (withPlaces (bookOf s) x)
-      → (c : ℕ) (old new : List ℕ) → c ≡ n (instance (bookOf s)) → old ≡ padded 200 (places (bookOf s)) → new ≡ padded 200 (places (bookOf t))
+      → (c : ℕ) (old new : List ℕ) → c ≡ size (bookOf s) → old ≡ placesIn s → new ≡ placesIn t
       → records c old new ≡ recordsTo (bookOf s) x
   placed-change x w t e c old new f g h =
       let k = bookOf s in
-      let there : new ≡ padded 200 x =
-      h ∙ ap (λ (u : Sheet). padded 200 (places (bookOf u))) e
-      ∙ ap (λ (j : Book). padded 200 (places j)) (view-placed-book s v x w)
-      ∙ ap (padded 200) (placed-places k x (w .size ∙ jobs-count k)) in
-      rw (f ∙ jobs-count k, g, there)
-      (records-ext _ _ _ _ _ (λ b l u. at-padded 200 (places k) b) (λ b l u. at-padded 200 x b))
+      let there : new ≡ padded 200 (take (size k) x) =
+      h ∙ ap placesIn e
+      ∙ ap (λ (j : Book). padded 200 (map (λ (b : Batch). b .place) (j .batches))) (view-placed-book s v x w)
+      ∙ ap (padded 200) (placed-at (k .batches) x (omega (arith, w .size, batches-first k))) in
+      rw (f, g, there)
+      (records-ext _ _ _ _ _
+      (λ b l u. at-padded 200 _ b ∙ front-places k b u)
+      (λ b l u. at-padded 200 (take (size k) x) b ∙ at-front (size k) x b u))
 
   pub balance-change : (b : Balanced) → b ≡ balanceOf (bookOf s)
-      → (c : ℕ) (old new : List ℕ) → c ≡ n (instance (bookOf s)) → old ≡ padded 200 (places (bookOf s)) → new ≡ padded 200 (places (bookOf (b .sheet)))
+      → (c : ℕ) (old new : List ℕ) → c ≡ size (bookOf s) → old ≡ placesIn s → new ≡ placesIn (b .sheet)
       → records c old new ≡ recordsTo (bookOf s) (balanceBook (bookOf s) .assignment)
   unfolding balanceOf
   balance-change b e =
@@ -48,7 +69,7 @@ module _ (s : Sheet) (v : Sound s) where
       (ap (λ (r : Balanced). r .sheet) e)
 
   pub settle-change : (z : Settled) → z ≡ settleOf (bookOf s)
-      → (c : ℕ) (old new : List ℕ) → c ≡ n (instance (bookOf s)) → old ≡ padded 200 (places (bookOf s)) → new ≡ padded 200 (places (bookOf (z .sheet)))
+      → (c : ℕ) (old new : List ℕ) → c ≡ size (bookOf s) → old ≡ placesIn s → new ≡ placesIn (z .sheet)
       → records c old new ≡ recordsTo (bookOf s) (settleBook (bookOf s) .assignment)
   unfolding settleOf
   settle-change z e =

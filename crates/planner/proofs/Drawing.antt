@@ -1,9 +1,10 @@
 -- Balance and settle over arrays: what they start from, and their figures as the rules give them.
-use Prim.Native.Nat.{ℕ, _≤_, _<_}
+use Prim.Native.Nat.{ℕ, _-_, _≤_, _<_}
 use mathlib.Core.Path.{_≡_, refl, sym, ap, _∙_}
 use mathlib.Core.List.{List}
 use native.Mathlib.Omega.{arith}
-use lib.ListN.{length, take}
+use lib.ListN.{length, take, replicate, length-take}
+use lib.Seq.{take-at, take-take, length-take-le}
 use Rattle.rules.specs.Fold.{at, maxTo, thoseTo}
 use Rattle.rules.specs.Instance.{Instance, Assignment, instance}
 use Rattle.rules.specs.Instance as In
@@ -11,13 +12,16 @@ use Rattle.rules.specs.Load.{load, makespan}
 use Rattle.rules.specs.LowerBound.{lowerBound}
 use Rattle.rules.specs.Balance as B
 use Rattle.rules.specs.Plan as P
-use Rattle.rules.specs.Sheet.{Book}
+use Rattle.rules.specs.Sheet.{Book, size}
 use Rattle.rules.specs.Run.{withPlaces}
 use Rattle.theory.proofs.Fold.{maxTo-ext}
 use Rattle.theory.proofs.Valid.{Permitted}
 use Rattle.theory.proofs.Planning.{balanced-permitted, rested-permitted}
+use Rattle.theory.proofs.Jobs.{batches-first}
 use Rattle.sheet.specs.declared.Sheet.{Sheet}
 use Rattle.sheet.specs.Represent.{Sound, padded, sheetOf, bookOf}
+use Rattle.sheet.specs.View.{keptPlaces}
+use Rattle.sheet.proofs.Placed.{kept-taken}
 use Rattle.sheet.proofs.SoundViews.{view-valid, view-permitted, view-placed}
 use Rattle.arrays.specs.Sets.{has}
 use Rattle.arrays.specs.Reads.{Reads}
@@ -42,11 +46,11 @@ module _ {I : Instance} {m c : ℕ} {lengths sets places loads : List ℕ} (st :
   pub makespan-is : maxTo m (λ i. at loads i) ≡ makespan I (take c places)
   makespan-is = greatest-is places (st .reads) (λ i l u. st .kept i l (omega (arith, st .reads .machines)))
 
-  pub drawn-permitted : {d : Drawn} → Draws I c (take c places) d → Permitted I (take (In.n I) (d .places))
-  drawn-permitted e = rw (st .reads .jobs, e .places) (balanced-permitted I (take c places) (st .reads .valid) (st .permitted))
+  pub drawn-permitted : {d : Drawn} → Draws I c (take c places) d → Permitted I (take c (d .places))
+  drawn-permitted e = rw (e .places) (balanced-permitted I (take c places) (st .reads .valid) (st .permitted))
 
-  pub rest-permitted : {z : Rested} → Rests I c (take c places) z → Permitted I (take (In.n I) (z .places))
-  rest-permitted e = rw (st .reads .jobs, e .places) (rested-permitted (st .reads .valid) (st .permitted))
+  pub rest-permitted : {z : Rested} → Rests I c (take c places) z → Permitted I (take c (z .places))
+  rest-permitted e = rw (e .places) (rested-permitted (st .reads .valid) (st .permitted))
 
   -- the figures of balance, from what the parts answer
   pub drawn : {s : Search} {group : List ℕ} {bound makespan size : ℕ}
@@ -106,6 +110,18 @@ module _ {I : Instance} {m c : ℕ} {lengths sets places loads : List ℕ} (st :
   }
 
 -- ---- what is shown
+
+-- the places of the batches are entered as they are
+pub front-entered : (k : Book) (b c : ℕ) (x out : List ℕ) → Permitted (instance k) (take c x) → In.n (instance k) ≡ c → b ≡ size k
+    → out ≡ padded 200 (take b x) → sheetOf (withPlaces k (keptPlaces k out)) ≡ sheetOf (withPlaces k (take c x))
+front-entered k b c x out w e f g =
+    let h : size k ≤ c = omega (arith, batches-first k) in
+    let long : size k ≤ length x = omega (arith, w .size, length-take c x) in
+    let front : take (size k) out ≡ take (size k) (take c x) =
+    ap (take (size k)) (g ∙ ap (λ (j : ℕ). padded 200 (take j x)) f)
+    ∙ take-at (take (size k) x) (replicate (200 - length (take (size k) x)) 0) (size k) (length-take-le (size k) x long)
+    ∙ sym (take-take (size k) c x h) in
+    ap sheetOf (kept-taken k out (take c x) w front)
 
 draws-at : {I : Instance} {c : ℕ} {x y : Assignment} {d : Drawn} → x ≡ y → Draws I c x d → Draws I c y d
 draws-at e h = rw (← e) h

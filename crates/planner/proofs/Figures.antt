@@ -39,10 +39,10 @@ showing-few : {I : Instance} {l : ℕ} {g : List ℕ} → Showing I l g → leng
 showing-few unfailed = omega arith
 showing-few (showed f g h) = group-few (h .group)
 
-showing-bound : {I : Instance} {l : ℕ} {g : List ℕ} (x : Assignment) → Permitted I x → longest I ≤ 288000 → makespan I x ≤ 288000
-    → Showing I l g → lowerBound I g ≤ 288000
-showing-bound {I} x w e f unfailed = bound-le I [] 288000 e (λ p. absurd (omega arith))
-showing-bound {I} x w e f (showed l g h) = bound-le I g 288000 e (λ p. le-trans (share-makespan I x g w (h .group) p) f)
+showing-bound : {I : Instance} {l : ℕ} {g : List ℕ} (x : Assignment) → Permitted I x → longest I ≤ 322560 → makespan I x ≤ 322560
+    → Showing I l g → lowerBound I g ≤ 322560
+showing-bound {I} x w e f unfailed = bound-le I [] 322560 e (λ p. absurd (omega arith))
+showing-bound {I} x w e f (showed l g h) = bound-le I g 322560 e (λ p. le-trans (share-makespan I x g w (h .group) p) f)
 
 -- ---- on a sound sheet
 
@@ -65,7 +65,7 @@ module _ (I : Instance) (x : Assignment) (a : Valid I) (b : Permitted I x) (s : 
   unfolding balanced
   level-few = balance-found I x a b .kept .below
 
-  bound-few : balanced I x .lowerBound ≤ 288000
+  bound-few : balanced I x .lowerBound ≤ 322560
   unfolding balanced
   bound-few = showing-bound x b (omega (arith, longest-small s)) (makespan-small s x) (balanced-showing I x a b)
 

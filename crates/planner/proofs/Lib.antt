@@ -5,4 +5,5 @@ pub mod Figures
 pub mod Reviewing
 pub mod Seeking
 pub mod TrialAnswers
+pub mod Entering
 pub mod SheetArrays

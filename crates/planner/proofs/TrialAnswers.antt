@@ -5,14 +5,15 @@ use mathlib.Core.Bool.{Bool, true, false}
 use mathlib.Core.List.{List}
 use native.Mathlib.Omega.{arith}
 use lib.ListN.{length, take, replicate}
+use lib.Seq.{take-take}
 use lib.Dec.{eqb}
 use borrow.Author.Tests.{le-leb, lt-leb}
 use Rattle.rules.specs.Fold.{pick, at, sumTo, thoseTo}
-use Rattle.rules.specs.Sheet.{Book}
+use Rattle.rules.specs.Sheet.{Book, size}
 use Rattle.rules.specs.Instance.{Instance, instance, places}
 use Rattle.rules.specs.Load.{total}
 use Rattle.rules.specs.Group.{trial, passed}
-use Rattle.rules.specs.Run.{answer}
+use Rattle.rules.specs.Run.{answer, shown}
 use Rattle.theory.proofs.Valid.{Permitted}
 use Rattle.sheet.specs.declared.Refusal.the-variants.{Nothing, LevelAbove}
 use Rattle.sheet.specs.Represent.{padded}
@@ -38,16 +39,17 @@ unfolding trialOf answer
 answered-refused k a h = rw (lt-leb a (total (instance k)) h) refl
 
 module _ (k : Book) (a : ℕ) (h : a ≤ total (instance k)) where
-  tried-is : {t : _} → trial (instance k) (places k) a ≡ t → triedAs t ≡ trialOf k a
+  tried-is : {t : _} → trial (instance k) (places k) a ≡ t → triedAs (shown (size k) t) ≡ trialOf k a
   unfolding trialOf answer
   tried-is e = rw (le-leb a (total (instance k)) h, e) refl
 
   module _ {c : ℕ} {w y loads : List ℕ} {pass : Bool} {group lifts pushes : ℕ} (e : w ≡ places k)
       (t : Tries (instance k) w a c y loads pass group lifts pushes) where
-    pub answered-passed : pass ≡ true → (out : List ℕ) → out ≡ padded 200 (take c y)
+    pub answered-passed : pass ≡ true → size k ≤ c → (out : List ℕ) → out ≡ padded 200 (take (size k) y)
         → record { refusal = Nothing; passed = true; lifts = lifts; pushes = pushes; places = out; size = 0; group = replicate 24 0 } ≡ trialOf k a
-    answered-passed b out o =
-        ap (λ (p : List ℕ). record { refusal = Nothing; passed = true; lifts = lifts; pushes = pushes; places = p; size = 0; group = replicate 24 0 }) o
+    answered-passed b q out o =
+        ap (λ (p : List ℕ). record { refusal = Nothing; passed = true; lifts = lifts; pushes = pushes; places = p; size = 0; group = replicate 24 0 })
+        (o ∙ ap (padded 200) (sym (take-take (size k) c y q)))
         ∙ tried-is (ap (λ (p : List ℕ). trial (instance k) p a) (sym e) ∙ t .passes b)
 
     pub answered-failed : pass ≡ false → (m : ℕ) → instance k .m ≡ m → m ≤ 24 → (list : List ℕ) (size : ℕ) → HoldsList (thoseTo m (λ i. has group i)) list size

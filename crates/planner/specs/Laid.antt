@@ -12,5 +12,5 @@ use Rattle.planner.specs.declared.laid.Laid.{Laid}
 pub record Lays (k : Book) (a : Laid) : Type 0 where
   pub stands : Standing (instance k) (a .m) (a .n) (a .minutes) (a .masks) (a .places) (a .loads)
   pub shown : take (a .n) (a .places) ≡ places k
-  pub wide : (length (a .minutes) ≡ 200) × (length (a .masks) ≡ 200) × (length (a .places) ≡ 200) × (length (a .loads) ≡ 24)
+  pub wide : (length (a .minutes) ≡ 224) × (length (a .masks) ≡ 224) × (length (a .places) ≡ 224) × (length (a .loads) ≡ 24)
   pub rest : (i : ℕ) → a .m < i → i ≤ 24 → at (a .loads) i ≡ 0

@@ -76,7 +76,7 @@ pub fn balance(
     highest: u32,
 ) -> Search
     requires { ⌜ ((I : Instance) × Standing I m n (now minutes) (now masks) places loads × (most ≡ longest I) × (highest ≡ makespan I (take n places))) ⌝ }
-    requires { ⌜ (n ≤ length (now minutes)) × (n ≤ length (now masks)) × (most ≤ 1440) × (highest ≤ 288000) ⌝ }
+    requires { ⌜ (n ≤ length (now minutes)) × (n ≤ length (now masks)) × (most ≤ 1440) × (highest ≤ 322560) ⌝ }
     ensures { λ r. ⌜ ((I : Instance) → Standing I m n (now (minutes .entry)) (now (masks .entry)) places loads → most ≡ longest I
         → highest ≡ makespan I (take n places) → Sought I m n (take n places) r) ⌝ }
 {

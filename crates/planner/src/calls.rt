@@ -11,7 +11,9 @@ use crate::Settled;
 use crate::Tried;
 use crate::drawn::draw;
 use crate::drawn::rest;
+use crate::items::items_of;
 use crate::laid::lay;
+use arrays::JOBS;
 use arrays::scan::largest_load;
 use arrays::scan::longest_of;
 use arrays::scan::total_of;
@@ -22,7 +24,7 @@ use sheet::Sheet;
 use trials::trial::try_level;
 
 // The first n places, and zeros after them.
-fn front(places: [u8; 200], n: usize) -> [u8; 200]
+fn front(places: [u8; JOBS], n: usize) -> [u8; 200]
     requires { ⌜ n ≤ 200 ⌝ }
     ensures { λ r. ⌜ r ≡ padded 200 (take n places) ⌝ }
 {
@@ -59,6 +61,7 @@ pub fn trial(sheet: Sheet, level: u32) -> Tried
     requires { ⌜ Sound sheet ⌝ }
     ensures { λ r. ⌜ TrialAnswered (bookOf sheet) level r ⌝ }
 {
+    let batches = sheet.batches();
     let a = lay(sheet);
     let minutes = a.minutes;
     let masks = a.masks;
@@ -79,7 +82,7 @@ pub fn trial(sheet: Sheet, level: u32) -> Tried
     let t = try_level(places, loads, &minutes, &masks, a.m, a.n, level, limit);
     if t.passed {
         let kept = t.places;
-        let shown = front(kept, a.n);
+        let shown = front(kept, batches);
         return Tried {
             refusal: Refusal::Nothing,
             passed: true,
@@ -108,16 +111,18 @@ pub fn balance(sheet: Sheet) -> Balanced
     requires { ⌜ Sound sheet ⌝ }
     ensures { λ r. ⌜ r ≡ balanceOf (bookOf sheet) ⌝ }
 {
+    let batches = sheet.batches();
     let a = lay(sheet);
     let minutes = a.minutes;
     let masks = a.masks;
     let places = a.places;
     let loads = a.loads;
-    let marks = sheet.eligibility();
+    let again = items_of(sheet);
+    let marks = again.marks;
     let d = draw(places, loads, &minutes, &masks, &marks, a.m, a.n);
     let list = d.group;
     let end = d.places;
-    let after = sheet.with_places(end);
+    let after = sheet.with_places(front(end, batches));
     Balanced {
         makespan: d.makespan,
         bound: d.bound,
@@ -135,6 +140,7 @@ pub fn settle(sheet: Sheet) -> Settled
     requires { ⌜ Sound sheet ⌝ }
     ensures { λ r. ⌜ r ≡ settleOf (bookOf sheet) ⌝ }
 {
+    let batches = sheet.batches();
     let a = lay(sheet);
     let minutes = a.minutes;
     let masks = a.masks;
@@ -142,7 +148,7 @@ pub fn settle(sheet: Sheet) -> Settled
     let loads = a.loads;
     let z = rest(places, loads, &minutes, &masks, a.m, a.n);
     let rested = z.places;
-    let after = sheet.with_places(rested);
+    let after = sheet.with_places(front(rested, batches));
     Settled {
         makespan: z.makespan,
         moves: z.moves,

@@ -1,6 +1,7 @@
-// A sheet in arrays, as review, trials, balance and settle need it.
+// A sheet in arrays, as review, trials, balance and settle need it: its batches and its calibrations above 0.
 ghost use Rattle.sheet.specs.Represent.{Sound, bookOf};
 ghost use Rattle.planner.specs.Laid.{Lays};
+use crate::items::items_of;
 use arrays::JOBS;
 use arrays::MACHINES;
 use arrays::scan::loads_of;
@@ -23,15 +24,15 @@ pub fn lay(sheet: Sheet) -> Laid
     ensures { λ r. ⌜ Lays (bookOf sheet) r ⌝ }
 {
     let m = sheet.instruments();
-    let n = sheet.batches();
-    let minutes = sheet.minutes();
-    let places = sheet.places();
-    let eligible = sheet.eligibility();
-    let masks = masks_of(&eligible, n, m);
-    let loads = loads_of(&minutes, &places, n, m);
+    let a = items_of(sheet);
+    let minutes = a.minutes;
+    let places = a.places;
+    let marks = a.marks;
+    let masks = masks_of(&marks, a.n, m);
+    let loads = loads_of(&minutes, &places, a.n, m);
     Laid {
         m,
-        n,
+        n: a.n,
         minutes,
         masks,
         places,

@@ -5,6 +5,7 @@ use sheet::Sheet;
 mod balance;
 pub mod calls;
 mod drawn;
+mod items;
 mod laid;
 
 // What a review answers: the load of each machine, 0 past the last, the greatest, and the lowest job that would finish earlier

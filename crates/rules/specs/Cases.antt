@@ -1,5 +1,5 @@
 -- Document 01, "Cases": P1 to P10 in one table, with one theorem over it. The rows from 11 on are more of document 01's cases
--- and ours: each tells a wrong rule from the right one. Rows 20 to 24 are C-11 to C-15 of
+-- and ours: each tells a wrong rule from the right one. Rows 20 to 25 are C-11 to C-16 of
 -- document 02.
 use Prim.Native.Nat.{ℕ}
 use Prim.Native.String.{String}
@@ -8,14 +8,14 @@ use mathlib.Core.Bool.{Bool, true, false}
 use mathlib.Core.List.{List, [], _∷_, map, _++_}
 use lib.ListN.{replicate}
 use Rattle.rules.specs.Fold.{_and_, _or_, mem, every, sumTo, most, maxTo, orElse, firstTo, anyTo, allTo, lesser, leastTo, greater, greatestTo, thoseTo, listTo}
-use Rattle.rules.specs.Refusal.{malformed, badSize, badLength, badList, badPlace, noBatch, levelAbove, bufferShort}
-use Rattle.rules.specs.Sheet.{Batch, isBatch, goodInstruments, goodMinutes, isInstrument, distinct, goodList, goodBatch, sound}
+use Rattle.rules.specs.Refusal.{malformed, badSize, badLength, badList, badPlace, badCalibration, noBatch, levelAbove, bufferShort}
+use Rattle.rules.specs.Sheet.{Batch, isBatch, goodInstruments, goodMinutes, goodCalibration, goodCalibrations, isInstrument, distinct, goodList, goodBatch, sound}
 use Rattle.rules.specs.Field.{Field, value, blank, fault, digits, loneZero, blanks, field}
-use Rattle.rules.specs.Read.{Reading, accepted, refusedAt, numberAt, placeAt, endOfLine, headLine, instrumentsAt, batchLine, batchLines, read}
+use Rattle.rules.specs.Read.{Reading, accepted, refusedAt, numberAt, placeAt, endOfLine, headLine, calibrationsAt, calibrationLine, instrumentsAt, batchLine, batchLines, linesAfter, read}
 use Rattle.rules.specs.Render.{columns, fields, Given, numbered, leftBlank, Described, Description, renderBatches, render, batchWithinLimits, withinLimits}
 use Rattle.rules.specs.Rewrite.{written, openInBatches, openColumns, alike}
 use Rattle.rules.specs.Edit.{add, withdraw, requalify, move, kept, edit}
-use Rattle.rules.specs.Instance.{Assignment, instance}
+use Rattle.rules.specs.Instance.{Assignment, calibrationsTo, busy, instance}
 use Rattle.rules.specs.Load.{load, makespan, longest, total, permitted, elsewhere, improvesAt, improves, review}
 use Rattle.rules.specs.Settle.{mover, target, moved, squares, settleBy, settle}
 use Rattle.rules.specs.Trial.{atLevel, underloaded, overloaded, unplaced, machineArc, jobArc, liftOver, pushOr, deed, jobDeed, machineDeed, someUnderloaded, actMachine, actJob, act, stepsBy, liftBound, pushBound, endedBy}
@@ -39,6 +39,7 @@ abbrev p1 : List ℕ
 p1 =
     lines
     ("     2     3"
+    ∷ "     0     0"
     ∷ "    30     1     2     1     2"
     ∷ "    20     1     1     1"
     ∷ "    10     1     2     1     2"
@@ -48,21 +49,23 @@ abbrev p2 : List ℕ
 p2 =
     lines
     ("     2     3"
+    ∷ "     0     0"
     ∷ "    10     1     1     1"
     ∷ "    10     1     1     1"
     ∷ "    10     1     1     1"
     ∷ [])
 
 abbrev p3 : List ℕ
-p3 = lines ("     2     0" ∷ [])
+p3 = lines ("     2     0" ∷ "     0     0" ∷ [])
 
 abbrev p4 : List ℕ
-p4 = lines ("     1     1" ∷ "  1440     1     1     1" ∷ [])
+p4 = lines ("     1     1" ∷ "     0" ∷ "  1440     1     1     1" ∷ [])
 
 abbrev p5 : List ℕ
 p5 =
     lines
     ("     2     3"
+    ∷ "     0     0"
     ∷ "    20     1     1     1"
     ∷ "    10     1     2     1     2"
     ∷ "    20     2     1     2"
@@ -72,6 +75,7 @@ abbrev p6 : List ℕ
 p6 =
     lines
     ("     2     3"
+    ∷ "     0     0"
     ∷ "    21     1     1     1"
     ∷ "    10     1     2     1     2"
     ∷ "    20     2     1     2"
@@ -82,6 +86,7 @@ abbrev alone : List ℕ
 alone =
     lines
     ("     1     3"
+    ∷ "     0"
     ∷ "    10     0     1     1"
     ∷ "    10     0     1     1"
     ∷ "    10     0     1     1"
@@ -89,13 +94,14 @@ alone =
 
 -- the longest batch is not on instrument 1
 abbrev apart : List ℕ
-apart = lines ("     2     2" ∷ "     5     1     1     1" ∷ "    30     2     1     2" ∷ [])
+apart = lines ("     2     2" ∷ "     0     0" ∷ "     5     1     1     1" ∷ "    30     2     1     2" ∷ [])
 
 -- level 1 fails, and level 2 passes with steps of its own only from the standing assignment
 abbrev again : List ℕ
 again =
     lines
     ("     2     3"
+    ∷ "     0     0"
     ∷ "     3     1     2     1     2"
     ∷ "     4     1     1     1"
     ∷ "     2     1     1     1"
@@ -106,6 +112,7 @@ abbrev uneven : List ℕ
 uneven =
     lines
     ("     3     4"
+    ∷ "     0     0     0"
     ∷ "     4     2     3     1     2     3"
     ∷ "     2     2     2     1     2"
     ∷ "     2     1     2     1     2"
@@ -117,6 +124,7 @@ abbrev unsettled : List ℕ
 unsettled =
     lines
     ("     2     4"
+    ∷ "     0     0"
     ∷ "     2     2     1     2"
     ∷ "     4     1     2     2     1"
     ∷ "     5     1     2     2     1"
@@ -128,6 +136,7 @@ abbrev threeWays : List ℕ
 threeWays =
     lines
     ("     2     3"
+    ∷ "     0     0"
     ∷ "    10     1     2     2     1"
     ∷ "    20     0     2     2     1"
     ∷ "    30           2     2     1"
@@ -138,6 +147,7 @@ abbrev rounded : List ℕ
 rounded =
     lines
     ("     2     3"
+    ∷ "     0     0"
     ∷ "     4     1     2     1     2"
     ∷ "     2     2     2     1     2"
     ∷ "     2     1     1     1"
@@ -148,6 +158,7 @@ abbrev equals : List ℕ
 equals =
     lines
     ("     2     3"
+    ∷ "     0     0"
     ∷ "     6     1     2     1     2"
     ∷ "     6     1     2     1     2"
     ∷ "     6     1     2     1     2"
@@ -158,11 +169,30 @@ abbrev returning : List ℕ
 returning =
     lines
     ("     3     4"
+    ∷ "     0     0     0"
     ∷ "     1     3     1     3"
     ∷ "     4     3     2     2     3"
     ∷ "     2     2     1     2"
     ∷ "     2     3     2     1     3"
     ∷ [])
+
+-- a calibration of 10 minutes on instrument 1, beside two batches that can run nowhere else
+abbrev calibrated : List ℕ
+calibrated =
+    lines
+    ("     2     2"
+    ∷ "    10     0"
+    ∷ "    10     1     1     1"
+    ∷ "    10     1     1     1"
+    ∷ [])
+
+-- the longest of all is a calibration
+abbrev slowStart : List ℕ
+slowStart = lines ("     2     1" ∷ "    10    40" ∷ "    20     2     2     1     2" ∷ [])
+
+-- calibrations and no batch
+abbrev idle : List ℕ
+idle = lines ("     2     0" ∷ "    30    20" ∷ [])
 
 -- ---- what is asked, and what is said
 
@@ -193,6 +223,8 @@ data Ask : Type 0 where
   comparing : List ℕ → ℕ → Assignment → Ask
   -- a list, beside a group
   confining : List ℕ → List ℕ → Ask
+  -- whether the sheet of a file has a batch or a calibration above 0
+  stirring : List ℕ → Ask
 
 -- the lengths are multiples of g, and all equal; the other plan is permitted; balance's finish and the other's; the bound for g holds
 record Comparison : Type 0 where
@@ -234,6 +266,10 @@ comparedOn (accepted k) g y =
     })
 comparedOn (refusedAt e j) g y = noSheet
 
+abbrev busyOn : Reading → Said
+busyOn (accepted k) = matched (busy k)
+busyOn (refusedAt e j) = noSheet
+
 abbrev writtenOf : Reading → Said
 writtenOf (accepted k) = fileSaid (written k)
 writtenOf (refusedAt e j) = noSheet
@@ -252,6 +288,7 @@ say (filing s c b) = filedSaid (filed s c b)
 say (calling s cs) = callsOn (read s) cs
 say (comparing s g y) = comparedOn (read s) g y
 say (confining l g) = lies (marksOf l) (within l g)
+say (stirring s) = busyOn (read s)
 
 -- a row: the case's number in document 01, what is asked, and what is to be said
 record Row : Type 0 where
@@ -285,6 +322,7 @@ describedOf t p l = record { minutes = t; list = l; place = p }
 abbrev threeGiven : Description
 threeGiven = record {
   m = 2;
+  calibrations = 0 ∷ 0 ∷ [];
   batches =
       describedOf 10 (numbered 1) (2 ∷ 1 ∷ [])
       ∷ describedOf 20 (numbered 0) (2 ∷ 1 ∷ [])
@@ -292,9 +330,9 @@ threeGiven = record {
       ∷ [];
 }
 
--- a file like threeWays, but for the columns of its lines 2 and 3 given here
+-- a file like threeWays, but for the columns of its lines 3 and 4 given here
 abbrev likeThreeWays : String → String → List ℕ
-likeThreeWays a b = lines ("     2     3" ∷ a ∷ b ∷ "    30     2     2     2     1" ∷ [])
+likeThreeWays a b = lines ("     2     3" ∷ "     0     0" ∷ a ∷ b ∷ "    30     2     2     2     1" ∷ [])
 
 table : List Row
 table =
@@ -320,18 +358,18 @@ table =
     (answered (tried (failed (1 ∷ []) 9 12) ∷ tried (passed (1 ∷ 1 ∷ 1 ∷ []) 0 0) ∷ []))
     ∷ row 9 (fieldOf "    07") (fieldSaid fault)
     ∷ row 9 (fieldOf "     0") (fieldSaid (value 0))
-    ∷ row 10 (reading p4) (readingSaid (accepted (record { m = 1; batches = batchOf 1440 (1 ∷ []) 1 ∷ [] })))
-    ∷ row 10 (reading (lines ("     1     1" ∷ "  1441     1     1     1" ∷ []))) (readingSaid (refusedAt badLength 2))
+    ∷ row 10 (reading p4) (readingSaid (accepted (record { m = 1; calibrations = 0 ∷ []; batches = batchOf 1440 (1 ∷ []) 1 ∷ [] })))
+    ∷ row 10 (reading (lines ("     1     1" ∷ "     0" ∷ "  1441     1     1     1" ∷ []))) (readingSaid (refusedAt badLength 3))
     -- more of reading
     ∷ row 11 (reading []) (readingSaid (refusedAt malformed 1))
-    ∷ row 11 (reading (p3 ++ (32 ∷ []))) (readingSaid (refusedAt malformed 2))
+    ∷ row 11 (reading (p3 ++ (32 ∷ []))) (readingSaid (refusedAt malformed 3))
     ∷ row 11 (reading (lines ("     2   201" ∷ []))) (readingSaid (refusedAt badSize 1))
-    ∷ row 11 (reading (lines ("     2     1" ∷ "    10     3     2     1     1" ∷ []))) (readingSaid (refusedAt badList 2))
-    ∷ row 11 (reading (lines ("     2     1" ∷ "    10     3     2     1     2 " ∷ []))) (readingSaid (refusedAt malformed 2))
-    ∷ row 11 (reading (lines ("     2     1" ∷ "    10     3     2     1     2" ∷ "x" ∷ []))) (readingSaid (refusedAt badPlace 2))
-    ∷ row 11 (reading (lines ("     2     1" ∷ "    10     2     1     1" ∷ []))) (readingSaid (refusedAt badPlace 2))
-    ∷ row 11 (reading (lines ("     2     1" ∷ "    10     0     2     2     1" ∷ [])))
-    (readingSaid (accepted (record { m = 2; batches = batchOf 10 (2 ∷ 1 ∷ []) 2 ∷ [] })))
+    ∷ row 11 (reading (lines ("     2     1" ∷ "     0     0" ∷ "    10     3     2     1     1" ∷ []))) (readingSaid (refusedAt badList 3))
+    ∷ row 11 (reading (lines ("     2     1" ∷ "     0     0" ∷ "    10     3     2     1     2 " ∷ []))) (readingSaid (refusedAt malformed 3))
+    ∷ row 11 (reading (lines ("     2     1" ∷ "     0     0" ∷ "    10     3     2     1     2" ∷ "x" ∷ []))) (readingSaid (refusedAt badPlace 3))
+    ∷ row 11 (reading (lines ("     2     1" ∷ "     0     0" ∷ "    10     2     1     1" ∷ []))) (readingSaid (refusedAt badPlace 3))
+    ∷ row 11 (reading (lines ("     2     1" ∷ "     0     0" ∷ "    10     0     2     2     1" ∷ [])))
+    (readingSaid (accepted (record { m = 2; calibrations = 0 ∷ 0 ∷ []; batches = batchOf 10 (2 ∷ 1 ∷ []) 2 ∷ [] })))
     ∷ row 12 (writing p1) (fileSaid p1)
     -- more of trials, balance and settle
     ∷ row 13 (calling alone (trying 0 ∷ trying 20 ∷ trying 30 ∷ trying 31 ∷ []))
@@ -416,14 +454,15 @@ table =
     ∷ row 20 (reading threeWays)
     (readingSaid (accepted (record {
       m = 2;
+      calibrations = 0 ∷ 0 ∷ [];
       batches = batchOf 10 (2 ∷ 1 ∷ []) 1 ∷ batchOf 20 (2 ∷ 1 ∷ []) 2 ∷ batchOf 30 (2 ∷ 1 ∷ []) 2 ∷ [];
     })))
     ∷ row 20 (rendering threeGiven) (fileSaid threeWays)
     ∷ row 20 (reading (lines ("           0" ∷ []))) (readingSaid (refusedAt malformed 1))
     ∷ row 20 (reading (lines ("     2      " ∷ []))) (readingSaid (refusedAt malformed 1))
-    ∷ row 20 (reading (lines ("     2     1" ∷ "           1     1     1" ∷ []))) (readingSaid (refusedAt malformed 2))
-    ∷ row 20 (reading (lines ("     2     1" ∷ "    10     1           1" ∷ []))) (readingSaid (refusedAt malformed 2))
-    ∷ row 20 (reading (lines ("     2     1" ∷ "    10     1     2     1      " ∷ []))) (readingSaid (refusedAt malformed 2))
+    ∷ row 20 (reading (lines ("     2     1" ∷ "     0     0" ∷ "           1     1     1" ∷ []))) (readingSaid (refusedAt malformed 3))
+    ∷ row 20 (reading (lines ("     2     1" ∷ "     0     0" ∷ "    10     1           1" ∷ []))) (readingSaid (refusedAt malformed 3))
+    ∷ row 20 (reading (lines ("     2     1" ∷ "     0     0" ∷ "    10     1     2     1      " ∷ []))) (readingSaid (refusedAt malformed 3))
     ∷ row 20 (running p3 (lines ("     5" ∷ "     4     1      " ∷ [])) (1 ∷ []))
     (hosted (record { refusal = 19; line = 2; length = 0; buffer = 1 ∷ [] }))
     -- round lengths: the bound for 2 is reached; not all are multiples of 4, and none is of 0; equal lengths
@@ -444,22 +483,23 @@ table =
     ∷ row 22 (matching threeGiven (likeThreeWays "    10     1     2     2     1" "    20     2     2     1     2")) (matched false)
     ∷ row 22 (matching threeGiven (likeThreeWays "    10     1     2     2     1" "    20     2     2     2     1 ")) (matched false)
     -- the sheet that a journal leaves, a refused call among its calls; an empty journal; a short buffer; bad files
-    ∷ row 22 (leaving p1 (lines ("     7     3" ∷ "     8     3" ∷ "     4     2     2" ∷ "     2     2" ∷ "     1    15     2     2     1" ∷ [])) (replicate 107 1))
+    ∷ row 22 (leaving p1 (lines ("     7     3" ∷ "     8     3" ∷ "     4     2     2" ∷ "     2     2" ∷ "     1    15     2     2     1" ∷ [])) (replicate 120 1))
     (hosted (record {
       refusal = 0;
       line = 0;
-      length = 106;
+      length = 119;
       buffer =
           lines
           ("     2     3"
+          ∷ "     0     0"
           ∷ "    30     2     2     1     2"
           ∷ "    10     1     2     1     2"
           ∷ "    15     2     2     2     1"
           ∷ [])
           ++ (1 ∷ []);
     }))
-    ∷ row 22 (leaving p3 [] (replicate 13 1)) (hosted (record { refusal = 0; line = 0; length = 13; buffer = p3 }))
-    ∷ row 22 (leaving p3 [] (replicate 12 1)) (hosted (record { refusal = 9; line = 0; length = 0; buffer = replicate 12 1 }))
+    ∷ row 22 (leaving p3 [] (replicate 26 1)) (hosted (record { refusal = 0; line = 0; length = 26; buffer = p3 }))
+    ∷ row 22 (leaving p3 [] (replicate 25 1)) (hosted (record { refusal = 9; line = 0; length = 0; buffer = replicate 25 1 }))
     ∷ row 22 (leaving p3 (lines ("     5" ∷ "     9" ∷ [])) []) (hosted (record { refusal = 19; line = 2; length = 0; buffer = [] }))
     ∷ row 22 (leaving [] (lines ("     9" ∷ [])) []) (hosted (record { refusal = 1; line = 1; length = 0; buffer = [] }))
     -- settle alone; a list with an entry less than there are batches, which changes nothing; balance after it, and each of them twice
@@ -491,15 +531,16 @@ table =
     ∷ row 23 (running p1 (lines ("     5" ∷ "     7" ∷ [])) (1 ∷ []))
     (hosted (record { refusal = 19; line = 2; length = 0; buffer = 1 ∷ [] }))
     -- on a file, with the sheet written back; a short list, a short buffer, a bad sheet
-    ∷ row 23 (filing p1 (settling 3) (replicate 101 1))
+    ∷ row 23 (filing p1 (settling 3) (replicate 114 1))
     (filedSaid (record {
       hosted = record {
         refusal = 0;
         line = 0;
-        length = 100;
+        length = 113;
         buffer =
             lines
             ("     2     3"
+            ∷ "     0     0"
             ∷ "    30     2     2     1     2"
             ∷ "    20     1     1     1"
             ∷ "    10     1     2     1     2"
@@ -510,8 +551,8 @@ table =
     }))
     ∷ row 23 (filing p1 (balancing 2) [])
     (filedSaid (record { hosted = record { refusal = 9; line = 0; length = 0; buffer = [] }; answer = refused bufferShort }))
-    ∷ row 23 (filing p1 (balancing 3) (replicate 99 1))
-    (filedSaid (record { hosted = record { refusal = 9; line = 0; length = 0; buffer = replicate 99 1 }; answer = refused bufferShort }))
+    ∷ row 23 (filing p1 (balancing 3) (replicate 112 1))
+    (filedSaid (record { hosted = record { refusal = 9; line = 0; length = 0; buffer = replicate 112 1 }; answer = refused bufferShort }))
     ∷ row 23 (filing [] (balancing 0) [])
     (filedSaid (record { hosted = record { refusal = 1; line = 1; length = 0; buffer = [] }; answer = refused malformed }))
     -- a list's marks, and whether it lies in a group: it does, all but its last instrument does, nothing is listed
@@ -520,6 +561,51 @@ table =
     ∷ row 24 (confining (4 ∷ 24 ∷ []) (4 ∷ 5 ∷ 6 ∷ []))
     (lies (0 ∷ 0 ∷ 0 ∷ 1 ∷ 0 ∷ 0 ∷ 0 ∷ 0 ∷ 0 ∷ 0 ∷ 0 ∷ 0 ∷ 0 ∷ 0 ∷ 0 ∷ 0 ∷ 0 ∷ 0 ∷ 0 ∷ 0 ∷ 0 ∷ 0 ∷ 0 ∷ 1 ∷ []) false)
     ∷ row 24 (confining [] []) (lies (replicate 24 0) true)
+    -- line 2: 240 is read, 241 is refused before what follows it is looked at; a blank, one too few, one too many, no line 2
+    ∷ row 25 (reading (lines ("     2     0" ∷ "   240     0" ∷ [])))
+    (readingSaid (accepted (record { m = 2; calibrations = 240 ∷ 0 ∷ []; batches = [] })))
+    ∷ row 25 (reading (lines ("     2     0" ∷ "   241     x" ∷ []))) (readingSaid (refusedAt badCalibration 2))
+    ∷ row 25 (reading (lines ("     2     0" ∷ "     x   241" ∷ []))) (readingSaid (refusedAt malformed 2))
+    ∷ row 25 (reading (lines ("     2     0" ∷ "           0" ∷ []))) (readingSaid (refusedAt malformed 2))
+    ∷ row 25 (reading (lines ("     2     0" ∷ "     0" ∷ []))) (readingSaid (refusedAt malformed 2))
+    ∷ row 25 (reading (lines ("     2     0" ∷ "     0     0     0" ∷ []))) (readingSaid (refusedAt malformed 2))
+    ∷ row 25 (reading (lines ("     2     1" ∷ "    30     1     2     1     2" ∷ []))) (readingSaid (refusedAt malformed 2))
+    ∷ row 25 (reading (lines ("     2     0" ∷ []))) (readingSaid (refusedAt malformed 2))
+    ∷ row 25 (writing calibrated) (fileSaid calibrated)
+    -- a calibration counts in the total, in trials and in what is confined to a group, and has no place among those shown
+    ∷ row 25 (calling calibrated (trying 19 ∷ trying 20 ∷ trying 30 ∷ trying 31 ∷ balancing 1 ∷ balancing 2 ∷ reviewing ∷ []))
+    (answered
+    (tried (failed (1 ∷ []) 9 12)
+    ∷ tried (passed (1 ∷ 1 ∷ []) 0 0)
+    ∷ tried (passed (1 ∷ 1 ∷ []) 0 0)
+    ∷ refused levelAbove
+    ∷ refused bufferShort
+    ∷ balanceSaid 30 30 20 0 0 (1 ∷ []) (1 ∷ 1 ∷ 1 ∷ []) []
+    ∷ reviewSaid (30 ∷ 0 ∷ []) 30 0
+    ∷ []))
+    ∷ row 25 (printing slowStart) (printed (lines ("    40    40    10     2     2           0" ∷ "     2     1     2" ∷ "     1     1    20" ∷ [])))
+    -- it stays with its instrument when batches come and go
+    ∷ row 25 (calling slowStart (editing (add 5 (1 ∷ [])) ∷ editing (withdraw 3) ∷ editing (withdraw 1) ∷ reviewing ∷ []))
+    (answered (done ∷ refused noBatch ∷ done ∷ reviewSaid (15 ∷ 40 ∷ []) 40 0 ∷ []))
+    ∷ row 25 (calling idle (trying 0 ∷ trying 50 ∷ trying 51 ∷ balancing 0 ∷ settling 0 ∷ reviewing ∷ []))
+    (answered
+    (tried (passed [] 0 0)
+    ∷ tried (passed [] 0 0)
+    ∷ refused levelAbove
+    ∷ balanceSaid 30 30 0 0 0 [] (1 ∷ 2 ∷ []) []
+    ∷ settleSaid 30 0 (1 ∷ 2 ∷ []) []
+    ∷ reviewSaid (30 ∷ 20 ∷ []) 30 0
+    ∷ []))
+    ∷ row 25 (stirring p3) (matched false)
+    ∷ row 25 (stirring p4) (matched true)
+    ∷ row 25 (stirring idle) (matched true)
+    -- round and equal lengths are those of calibrations too
+    ∷ row 25 (comparing slowStart 20 (1 ∷ 1 ∷ 2 ∷ []))
+    (compared (record { multiples = false; equal = false; permitted = true; finish = 40; other = 40; close = true }))
+    ∷ row 25 (comparing slowStart 10 (2 ∷ 1 ∷ 2 ∷ []))
+    (compared (record { multiples = true; equal = false; permitted = true; finish = 40; other = 60; close = true }))
+    ∷ row 25 (comparing slowStart 10 (1 ∷ 2 ∷ 2 ∷ []))
+    (compared (record { multiples = true; equal = false; permitted = false; finish = 40; other = 50; close = true }))
     ∷ []
 
 abbrev asked : List Row → List Said
@@ -530,5 +616,5 @@ said t = map (λ (r : Row). r .says) t
 
 -- the rules say what the table says
 cases : asked table ≡ said table
-unfolding table bytes lines _and_ _or_ mem every sumTo most maxTo orElse firstTo anyTo allTo lesser leastTo greater greatestTo thoseTo listTo isBatch goodInstruments goodMinutes isInstrument distinct goodList goodBatch sound digits loneZero blanks field numberAt placeAt endOfLine headLine instrumentsAt batchLine batchLines read columns fields renderBatches render written openInBatches openColumns alike batchWithinLimits withinLimits kept edit load makespan longest total permitted elsewhere improvesAt improves review mover target moved squares settleBy settle atLevel underloaded overloaded unplaced machineArc jobArc liftOver pushOr deed jobDeed machineDeed someUnderloaded actMachine actJob act stepsBy liftBound pushBound endedBy overflows reach reachBy closure group trial searchBy balance within confined share lowerBound marksOf multiples equalLengths closeTo P.balanced P.rested P.plan records moveNumbers answer next bookAfter answers intoBuffer batchListing listing program host numbersAt listAt addAt withdrawAt requalifyAt moveAt trialAt balanceAt settleAt callAt callLine linesBy journal answerLines runHost writeHost filed
+unfolding table bytes lines _and_ _or_ mem every sumTo most maxTo orElse firstTo anyTo allTo lesser leastTo greater greatestTo thoseTo listTo isBatch goodInstruments goodMinutes goodCalibration goodCalibrations isInstrument distinct goodList goodBatch sound digits loneZero blanks field numberAt placeAt endOfLine headLine calibrationsAt calibrationLine instrumentsAt batchLine batchLines linesAfter read columns fields renderBatches render written openInBatches openColumns alike batchWithinLimits withinLimits kept edit calibrationsTo busy load makespan longest total permitted elsewhere improvesAt improves review mover target moved squares settleBy settle atLevel underloaded overloaded unplaced machineArc jobArc liftOver pushOr deed jobDeed machineDeed someUnderloaded actMachine actJob act stepsBy liftBound pushBound endedBy overflows reach reachBy closure group trial searchBy balance within confined share lowerBound marksOf multiples equalLengths closeTo P.balanced P.rested P.plan records moveNumbers answer next bookAfter answers intoBuffer batchListing listing program host numbersAt listAt addAt withdrawAt requalifyAt moveAt trialAt balanceAt settleAt callAt callLine linesBy journal answerLines runHost writeHost filed
 cases = refl

@@ -38,7 +38,7 @@ without (b ∷ bs) zero = bs
 without (b ∷ bs) (suc k) = b ∷ without bs k
 
 abbrev pub withBatches : Book → List Batch → Book
-withBatches k bs = record { m = k .m; batches = bs }
+withBatches k bs = record { m = k .m; calibrations = k .calibrations; batches = bs }
 
 -- the book with c as batch number b
 abbrev pub withBatch : Book → ℕ → Batch → Book

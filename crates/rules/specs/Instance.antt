@@ -1,11 +1,13 @@
 -- What the mathematics sees of a book: an instance (source document 000, section 2, with users as jobs and links as
--- machines) and an assignment. All rules on loads, trials, balance and settle go by these two alone.
+-- machines) and an assignment. All rules on loads, trials, balance and settle go by these two alone. Document 02, C-16: a calibration is a
+-- job too.
 use Prim.Native.Nat.{ℕ, zero, suc}
 use mathlib.Core.Bool.{Bool}
-use mathlib.Core.List.{List, [], map}
+use mathlib.Core.List.{List, [], _∷_, _++_, map}
 use lib.ListN.{length, getD}
-use Rattle.rules.specs.Fold.{mem}
-use Rattle.rules.specs.Sheet.{Book, Batch}
+use lib.Dec.{leb}
+use Rattle.rules.specs.Fold.{_or_, at, mem, anyTo}
+use Rattle.rules.specs.Sheet.{Book, Batch, size}
 
 -- a job: a length, and the machines that may run it (document 01: qualified)
 pub record Job : Type 0 where
@@ -47,8 +49,26 @@ eligible I b i = mem i (listOf I b)
 abbrev pub jobOf : Batch → Job
 jobOf b = record { minutes = b .minutes; list = b .list }
 
+-- a calibration of t minutes of instrument i: where t is above 0, as a batch that stands there and may run nowhere else
+abbrev pub calibrationOf : ℕ → ℕ → List Batch
+calibrationOf i zero = []
+calibrationOf i (suc t) = record { minutes = suc t; list = i ∷ []; place = i } ∷ []
+
+-- those of instruments 1 to c
+unfoldable pub calibrationsTo : List ℕ → ℕ → List Batch
+calibrationsTo l zero = []
+calibrationsTo l (suc c) = calibrationsTo l c ++ calibrationOf (suc c) (at l (suc c))
+
+-- all that takes time: the batches, and after them the calibrations above 0, by instrument
+abbrev pub items : Book → List Batch
+items k = k .batches ++ calibrationsTo (k .calibrations) (k .m)
+
+-- there is a batch, or a calibration above 0
+unfoldable pub busy : Book → Bool
+busy k = leb 1 (size k) or anyTo (k .m) (λ i. leb 1 (at (k .calibrations) i))
+
 abbrev pub instance : Book → Instance
-instance k = record { m = k .m; jobs = map jobOf (k .batches) }
+instance k = record { m = k .m; jobs = map jobOf (items k) }
 
 abbrev pub places : Book → Assignment
-places k = map (λ (b : Batch). b .place) (k .batches)
+places k = map (λ (b : Batch). b .place) (items k)

@@ -1,12 +1,12 @@
--- Document 01, "The sheet": reading goes from the front, and the first fault met decides.
+-- Document 01, "The sheet": reading goes from the front, and the first fault met decides. Document 02, C-16: line 2 has the calibrations.
 use Prim.Native.Nat.{ℕ, zero, suc}
 use mathlib.Core.Bool.{Bool, true, false, not}
 use mathlib.Core.List.{List, [], _∷_, _++_}
 use lib.ListN.{drop}
 use lib.Dec.{leb, eqb}
 use Rattle.rules.specs.Fold.{_and_, _or_, mem}
-use Rattle.rules.specs.Refusal.{Refusal, malformed, badSize, badLength, badList, badPlace, number}
-use Rattle.rules.specs.Sheet.{Book, Batch, maxBatches, goodInstruments, goodMinutes, isInstrument, head}
+use Rattle.rules.specs.Refusal.{Refusal, malformed, badSize, badLength, badList, badPlace, badCalibration, number}
+use Rattle.rules.specs.Sheet.{Book, Batch, maxBatches, goodInstruments, goodMinutes, goodCalibration, isInstrument, head}
 use Rattle.rules.specs.Field.{Field, value, blank, fault, field, fieldWidth}
 
 -- ---- a part of a sheet: what it gives, with the rest of the bytes, or a refusal
@@ -64,6 +64,19 @@ headLine s =
     orRefuse (leb n maxBatches) badSize
     (endOfLine r₂ (λ r₃. gives (record { m = m; n = n }) r₃)))))
 
+-- ---- line 2: a calibration for each instrument
+
+-- c more calibrations after those of l, each judged at its own field
+unfoldable pub calibrationsAt : ℕ → List ℕ → List ℕ → Part (List ℕ)
+calibrationsAt zero l r = gives l r
+calibrationsAt (suc c) l r =
+    andThen (numberAt r) (λ v r₁.
+    orRefuse (goodCalibration v) badCalibration
+    (calibrationsAt c (l ++ (v ∷ [])) r₁))
+
+unfoldable pub calibrationLine : ℕ → List ℕ → Part (List ℕ)
+calibrationLine m r = andThen (calibrationsAt m [] r) (λ l r₁. endOfLine r₁ (λ r₂. gives l r₂))
+
 -- ---- a batch line: length, place, how many instruments, and those instruments
 
 -- c more instruments after those of l. Each is judged at its own field: it is one of 1 to m, and not in l already.
@@ -102,14 +115,18 @@ abbrev pub onLine : {X : Type 0} → ℕ → Part X → (X → List ℕ → Read
 onLine j (gives x r) next = next x r
 onLine j (refuses e) next = refusedAt e j
 
--- c more batch lines, the next of which is line j, after the batches bs; then nothing may follow
-unfoldable pub batchLines : ℕ → ℕ → ℕ → List Batch → List ℕ → Reading
-batchLines m zero j bs [] = accepted (record { m = m; batches = bs })
-batchLines m zero j bs (x ∷ r) = refusedAt malformed j
-batchLines m (suc c) j bs r = onLine j (batchLine m r) (λ b r₁. batchLines m c (suc j) (bs ++ (b ∷ [])) r₁)
+-- c more batch lines, the next of which is line j, after the batches bs; then nothing may follow. The calibrations are l.
+unfoldable pub batchLines : ℕ → List ℕ → ℕ → ℕ → List Batch → List ℕ → Reading
+batchLines m l zero j bs [] = accepted (record { m = m; calibrations = l; batches = bs })
+batchLines m l zero j bs (x ∷ r) = refusedAt malformed j
+batchLines m l (suc c) j bs r = onLine j (batchLine m r) (λ b r₁. batchLines m l c (suc j) (bs ++ (b ∷ [])) r₁)
+
+-- from line 2 on
+unfoldable pub linesAfter : Head → List ℕ → Reading
+linesAfter h r = onLine 2 (calibrationLine (h .m) r) (λ l r₁. batchLines (h .m) l (h .n) 3 [] r₁)
 
 unfoldable pub read : List ℕ → Reading
-read s = onLine 1 (headLine s) (λ h r. batchLines (h .m) (h .n) 2 [] r)
+read s = onLine 1 (headLine s) (λ h r. linesAfter h r)
 
 -- a reading as numbers: the refusal and its line, 0 and 0 for none
 abbrev pub readingNumbers : Reading → List ℕ

@@ -8,6 +8,8 @@ pub data Refusal : Type 0 where
   badLength : Refusal
   badList : Refusal
   badPlace : Refusal
+  -- document 02, C-16
+  badCalibration : Refusal
   -- whoever edits
   noBatch : Refusal
   sheetFull : Refusal
@@ -26,3 +28,4 @@ number noBatch = 6
 number sheetFull = 7
 number levelAbove = 8
 number bufferShort = 9
+number badCalibration = 10

@@ -6,7 +6,7 @@ use mathlib.Core.List.{List, [], _∷_, _++_, map}
 use lib.ListN.{length, replicate}
 use lib.Dec.{leb, ltb, eqb}
 use Rattle.rules.specs.Fold.{_and_, _or_, pick, mem, every}
-use Rattle.rules.specs.Sheet.{Book, Batch, maxBatches, goodInstruments, goodMinutes, goodList}
+use Rattle.rules.specs.Sheet.{Book, Batch, maxBatches, goodInstruments, goodMinutes, goodCalibrations, goodList}
 use Rattle.rules.specs.Field.{fieldWidth}
 use Rattle.rules.specs.Read.{placeOr}
 
@@ -45,6 +45,7 @@ pub record Described : Type 0 where
 
 pub record Description : Type 0 where
   pub m : ℕ
+  pub calibrations : List ℕ
   pub batches : List Described
 
 abbrev pub renderBatch : Described → List ℕ
@@ -55,7 +56,7 @@ renderBatches [] = []
 renderBatches (b ∷ bs) = renderBatch b ++ renderBatches bs
 
 unfoldable pub render : Description → List ℕ
-render d = line (d .m ∷ length (d .batches) ∷ []) ++ renderBatches (d .batches)
+render d = line (d .m ∷ length (d .batches) ∷ []) ++ (line (d .calibrations) ++ renderBatches (d .batches))
 
 -- a description within the limits: as a sound book, but a place may be 0 or blank
 unfoldable pub batchWithinLimits : ℕ → Described → Bool
@@ -64,18 +65,22 @@ batchWithinLimits m b =
     goodMinutes (b .minutes) and goodList m (b .list) and (eqb p 0 or mem p (b .list))
 
 unfoldable pub withinLimits : Description → Bool
-withinLimits d = goodInstruments (d .m) and leb (length (d .batches)) maxBatches and every (batchWithinLimits (d .m)) (d .batches)
+withinLimits d =
+    goodInstruments (d .m)
+    and goodCalibrations (d .m) (d .calibrations)
+    and leb (length (d .batches)) maxBatches
+    and every (batchWithinLimits (d .m)) (d .batches)
 
 -- the book of a description: a place not given is the first listed
 abbrev pub placed : Described → Batch
 placed b = record { minutes = b .minutes; list = b .list; place = placeOr (givenNumber (b .place)) (b .list) }
 
 abbrev pub bookSaid : Description → Book
-bookSaid d = record { m = d .m; batches = map placed (d .batches) }
+bookSaid d = record { m = d .m; calibrations = d .calibrations; batches = map placed (d .batches) }
 
 -- a description of a book: every place as its number
 abbrev pub describedBatch : Batch → Described
 describedBatch b = record { minutes = b .minutes; list = b .list; place = numbered (b .place) }
 
 abbrev pub described : Book → Description
-described k = record { m = k .m; batches = map describedBatch (k .batches) }
+described k = record { m = k .m; calibrations = k .calibrations; batches = map describedBatch (k .batches) }

@@ -30,7 +30,8 @@ openInBatches [] = []
 openInBatches (b ∷ bs) = openInBatch b ++ openInBatches bs
 
 unfoldable pub openColumns : Description → List Bool
-openColumns d = unmarked (line (d .m ∷ length (d .batches) ∷ [])) ++ openInBatches (d .batches)
+openColumns d =
+    unmarked (line (d .m ∷ length (d .batches) ∷ [])) ++ (unmarked (line (d .calibrations)) ++ openInBatches (d .batches))
 
 -- two texts have a byte for each mark, and are equal in each that is not marked
 unfoldable pub alike : List Bool → List ℕ → List ℕ → Bool

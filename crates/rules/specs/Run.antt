@@ -2,7 +2,7 @@
 use Prim.Native.Nat.{ℕ}
 use mathlib.Core.Bool.{Bool, true, false}
 use mathlib.Core.List.{List, [], _∷_, _++_}
-use lib.ListN.{length}
+use lib.ListN.{length, take}
 use lib.Dec.{leb}
 use Rattle.rules.specs.Fold.{pick}
 use Rattle.rules.specs.Refusal.{Refusal, levelAbove, bufferShort, number}
@@ -35,7 +35,7 @@ pub data Answer : Type 0 where
 
 -- ---- each call on the book
 
--- the batches with the places of an assignment
+-- the batches with the places of an assignment, which goes on with those of the calibrations
 abbrev pub placeAll : List Batch → Assignment → List Batch
 placeAll [] x = []
 placeAll (b ∷ bs) [] = b ∷ bs
@@ -58,9 +58,14 @@ abbrev pub editBook : Book → Edited → Book
 editBook k (Edit.refused e) = k
 editBook k (edited j) = j
 
+-- a trial shows the places of the first c jobs: those of the batches, without those of the calibrations
+abbrev pub shown : ℕ → Tried → Tried
+shown c (passed x r b) = passed (take c x) r b
+shown c (failed g r b) = failed g r b
+
 -- a trial's level is at most the total minutes
 abbrev pub tryAnswer : Bool → Book → ℕ → Answer
-tryAnswer true k a = tried (trial (instance k) (places k) a)
+tryAnswer true k a = tried (shown (size k) (trial (instance k) (places k) a))
 tryAnswer false k a = refused levelAbove
 
 -- a list lent for records has an entry for each batch of the sheet, however many records there are

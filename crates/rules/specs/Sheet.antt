@@ -1,9 +1,10 @@
--- Document 01, "The sheet" and "Runs": the limits, the book that says what a sheet holds, and when a book is sound.
+-- Document 01, "The sheet" and "Runs": the limits, the book that says what a sheet holds, and when a book is sound. Document 02, C-16: the
+-- calibrations.
 use Prim.Native.Nat.{ℕ, zero, suc}
 use mathlib.Core.Bool.{Bool, true, not}
 use mathlib.Core.List.{List, [], _∷_}
 use lib.ListN.{length, getD}
-use lib.Dec.{leb}
+use lib.Dec.{leb, eqb}
 use Rattle.rules.specs.Fold.{_and_, mem, every}
 
 -- ---- the limits
@@ -17,6 +18,9 @@ maxBatches = 200
 abbrev pub maxMinutes : ℕ
 maxMinutes = 1440
 
+abbrev pub maxCalibration : ℕ
+maxCalibration = 240
+
 -- ---- the book
 
 -- a batch: its length in minutes, the instruments that may run it in the order given, and the instrument it is on
@@ -25,9 +29,11 @@ pub record Batch : Type 0 where
   pub list : List ℕ
   pub place : ℕ
 
--- m instruments, numbered from 1, and the batches, numbered from 1 in this order
+-- m instruments, numbered from 1, the length in minutes of each one's calibration, 0 for none, and the batches, numbered from 1 in this
+-- order
 pub record Book : Type 0 where
   pub m : ℕ
+  pub calibrations : List ℕ
   pub batches : List Batch
 
 -- how many batches
@@ -58,6 +64,13 @@ goodInstruments m = leb 1 m and leb m maxInstruments
 unfoldable pub goodMinutes : ℕ → Bool
 goodMinutes t = leb 1 t and leb t maxMinutes
 
+unfoldable pub goodCalibration : ℕ → Bool
+goodCalibration t = leb t maxCalibration
+
+-- one for each instrument
+unfoldable pub goodCalibrations : ℕ → List ℕ → Bool
+goodCalibrations m l = eqb (length l) m and every goodCalibration l
+
 -- i is one of the instruments 1 to m
 unfoldable pub isInstrument : ℕ → ℕ → Bool
 isInstrument m i = leb 1 i and leb i m
@@ -76,4 +89,8 @@ goodBatch m b = goodMinutes (b .minutes) and goodList m (b .list) and mem (b .pl
 
 -- what every sheet's book meets: all limits, and each batch on an instrument of its list
 unfoldable pub sound : Book → Bool
-sound k = goodInstruments (k .m) and leb (size k) maxBatches and every (goodBatch (k .m)) (k .batches)
+sound k =
+    goodInstruments (k .m)
+    and goodCalibrations (k .m) (k .calibrations)
+    and leb (size k) maxBatches
+    and every (goodBatch (k .m)) (k .batches)

@@ -128,8 +128,8 @@ pub fn members_of(x: u32, m: usize) -> Members
 
 // The minutes of the jobs whose machines all lie in the group, by 24 marks for each job and those of the group.
 pub fn confined_of(minutes: &[u16], marks: &[u8], n: usize, group: &[u8]) -> u32
-    requires { ⌜ (n ≤ 200) × (n ≤ length (now minutes)) × (n * 24 ≤ length (now marks)) × (length (now group) ≡ 24) ⌝ }
-    ensures { λ r. ⌜ r ≤ 13107000 ⌝ }
+    requires { ⌜ (n ≤ 224) × (n ≤ length (now minutes)) × (n * 24 ≤ length (now marks)) × (length (now group) ≡ 24) ⌝ }
+    ensures { λ r. ⌜ r ≤ 14679840 ⌝ }
     ensures { λ r. ⌜ ((I : Instance) (m : ℕ) (sets list : List ℕ) → Reads I m n (now (minutes .entry)) sets → Marked I n (now (marks .entry))
         → now (group .entry) ≡ marksOf list → r ≡ confined I list) ⌝ }
 {
@@ -163,7 +163,7 @@ pub fn bound_of(
     group: &[u8],
     size: u32,
 ) -> u32
-    requires { ⌜ (size ≤ 24) × (n ≤ 200) × (n ≤ length (now minutes)) × (n * 24 ≤ length (now marks)) × (length (now group) ≡ 24) ⌝ }
+    requires { ⌜ (size ≤ 24) × (n ≤ 224) × (n ≤ length (now minutes)) × (n * 24 ≤ length (now marks)) × (length (now group) ≡ 24) ⌝ }
     ensures { λ r. ⌜ ((I : Instance) (m : ℕ) (sets list : List ℕ) → Reads I m n (now (minutes .entry)) sets → Marked I n (now (marks .entry))
         → now (group .entry) ≡ marksOf list → size ≡ length list → longest ≡ Load.longest I → r ≡ lowerBound I list) ⌝ }
 {

@@ -59,7 +59,7 @@ pub record InRange (m : ℕ) (lengths sets places loads : List ℕ) (b : ℕ) : 
   pub placed : 0 < getD places b 0
   pub numbered : getD places b 0 ≤ m
   pub takes : getD lengths b 0 ≤ 1440
-  pub small : (i : ℕ) → i < m → getD loads i 0 ≤ 288000
+  pub small : (i : ℕ) → i < m → getD loads i 0 ≤ 322560
 
 pub in-range : {m c : ℕ} {lengths sets places loads : List ℕ} → Known m c lengths sets places loads → (b : ℕ) → b < c
     → InRange m lengths sets places loads b

@@ -1,4 +1,4 @@
--- What reading answers: a sound sheet of the book that the rules give, or the rules' refusal, whose line is at most 202.
+-- What reading answers: a sound sheet of the book that the rules give, or the rules' refusal, whose line is at most 203.
 use Prim.Native.Nat.{ℕ, zero, suc, _+_, _≤_}
 use mathlib.Core.Path.{_≡_, refl, sym, ap, _∙_}
 use mathlib.Core.List.{List, [], _∷_, _++_}
@@ -7,7 +7,7 @@ use lib.ListN.{drop}
 use Rattle.rules.specs.Refusal.{number}
 use Rattle.rules.specs.Refusal as R
 use Rattle.rules.specs.Sheet.{Batch}
-use Rattle.rules.specs.Read.{Part, accepted, refusedAt, onLine, batchLines, read}
+use Rattle.rules.specs.Read.{Part, Head, accepted, refusedAt, onLine, batchLines, linesAfter, read}
 use Rattle.rules.specs.Read as D
 use Rattle.theory.proofs.Sound.{read-sound}
 use Rattle.sheet.specs.declared.Reading.{Reading}
@@ -15,7 +15,7 @@ use Rattle.sheet.specs.declared.Refusal.the-variants.{Nothing}
 use Rattle.sheet.specs.Represent.{Sound, bookOf}
 use Rattle.sheet.specs.Answers.{coded-number, numberOf, readAs, readOf}
 use Rattle.sheet.proofs.Represent.{book-sheet, sheet-sound}
-use Rattle.sheet.proofs.Extent.{Near, refuse, give, head-near, batch-near}
+use Rattle.sheet.proofs.Extent.{Near, refuse, give, Sizes, head-near, calibration-near, batch-near}
 use Rattle.sheet.proofs.PartsRead.{coded-none}
 
 -- ---- a sheet that is not refused
@@ -57,17 +57,22 @@ line-most : {X : Type 0} {P : X → Type 0} {b w : ℕ} {r : List ℕ} {p q : Pa
 line-most {i = i} j c f (refuse g) e l n = let z : j ≡ i = cc in omega arith
 line-most j c f (give x k a u v) e l n = n x k a e
 
-lines-most : (m c j : ℕ) (bs : List Batch) (r : List ℕ) (g : R.Refusal) (i : ℕ) → m ≤ 24
-    → batchLines m c j bs r ≡ refusedAt g i → i ≤ j + c
+lines-most : (m : ℕ) (l : List ℕ) (c j : ℕ) (bs : List Batch) (r : List ℕ) (g : R.Refusal) (i : ℕ) → m ≤ 24
+    → batchLines m l c j bs r ≡ refusedAt g i → i ≤ j + c
 unfolding batchLines
-lines-most m zero j bs [] g i h e = absurd (let z : _≡_ {A = ℕ} 0 1 = cc in omega arith)
-lines-most m zero j bs (x ∷ r) g i h e = let z : j ≡ i = cc in omega arith
-lines-most m (suc c) j bs r g i h e =
+lines-most m l zero j bs [] g i h e = absurd (let z : _≡_ {A = ℕ} 0 1 = cc in omega arith)
+lines-most m l zero j bs (x ∷ r) g i h e = let z : j ≡ i = cc in omega arith
+lines-most m l (suc c) j bs r g i h e =
     line-most j (j + suc c) _ (batch-near m 163 r h (omega arith)) e (omega arith)
-    (λ b k a d. omega (arith, lines-most m c (suc j) (bs ++ (b ∷ [])) (drop k r) g i h d))
+    (λ b k a d. omega (arith, lines-most m l c (suc j) (bs ++ (b ∷ [])) (drop k r) g i h d))
 
-pub refused-line : (s : List ℕ) (g : R.Refusal) (i : ℕ) → read s ≡ refusedAt g i → i ≤ 202
+after-most : (h : Head) (r : List ℕ) (g : R.Refusal) (i : ℕ) → Sizes h → linesAfter h r ≡ refusedAt g i → i ≤ 203
+unfolding linesAfter
+after-most h r g i a e =
+    line-most 2 203 _ (calibration-near (h .m) 145 r (a .instruments) (omega arith)) e (omega arith)
+    (λ l k b d. omega (arith, a .batches, lines-most (h .m) l (h .n) 3 [] (drop k r) g i (a .instruments) d))
+
+pub refused-line : (s : List ℕ) (g : R.Refusal) (i : ℕ) → read s ≡ refusedAt g i → i ≤ 203
 unfolding read
 refused-line s g i e =
-    line-most 1 202 _ (head-near 13 s (omega arith)) e (omega arith)
-    (λ h k a d. omega (arith, a .batches, lines-most (h .m) (h .n) 2 [] (drop k s) g i (a .instruments) d))
+    line-most 1 203 _ (head-near 13 s (omega arith)) e (omega arith) (λ h k a d. after-most h (drop k s) g i a d)

@@ -1,4 +1,4 @@
--- An answer that is the rules' is so in document 01's numbers.
+-- An answer that is the rules' is so in the documents' numbers.
 use Prim.Native.Nat.{ℕ}
 use mathlib.Core.Path.{_≡_, refl, ap}
 use mathlib.Core.List.{List, [], _∷_}

@@ -10,7 +10,7 @@ use lib.Seq.{drop-cons}
 use Rattle.rules.specs.Fold.{every}
 use Rattle.rules.specs.Refusal.{malformed}
 use Rattle.rules.specs.Sheet.{Book, Batch}
-use Rattle.rules.specs.Read.{batchLine, accepted, refusedAt, batchLines}
+use Rattle.rules.specs.Read.{Reading, batchLine, accepted, refusedAt, batchLines}
 use Rattle.theory.proofs.Member.{every-append, every-one}
 use Rattle.sheet.specs.declared.Refusal.the-variants.{Nothing, Malformed}
 use Rattle.sheet.specs.declared.Sheet.{Sheet}
@@ -22,46 +22,55 @@ use Rattle.sheet.proofs.Padded.{length-padded}
 use Rattle.sheet.proofs.Represent.{narrow, length-rows, append-law}
 use Rattle.sheet.proofs.PartsRead.{LineGiven, line-refused}
 
--- the book of the batches bs
-abbrev booked : ℕ → List Batch → Book
-booked m bs = record { m = m; batches = bs }
+-- the book of the calibrations l and the batches bs
+abbrev booked : ℕ → List ℕ → List Batch → Book
+booked m l bs = record { m = m; calibrations = l; batches = bs }
 
 -- the sheet that these arrays make
-abbrev pub held : ℕ → ℕ → List ℕ → List ℕ → List ℕ → List ℕ → Sheet
-held m n minutes places counts lists = record {
+abbrev pub held : ℕ → ℕ → List ℕ → List ℕ → List ℕ → List ℕ → List ℕ → Sheet
+held m n calibrations minutes places counts lists = record {
   m = m;
   n = n;
+  calibrations = calibrations;
   minutes = minutes;
   places = places;
   counts = counts;
   lists = lists;
 }
 
-module _ (s : List ℕ) (at m n : ℕ) where
+module _ (s : List ℕ) (at m n : ℕ) (calibrations : List ℕ) where
+  -- what the n batch lines from at on give
+  abbrev pub whole : Reading
+  whole = batchLines m calibrations n 3 [] (drop at s)
+
+  -- what they give where i of them are read, into bs and up to next
+  abbrev pub onward : ℕ → List Batch → ℕ → Reading
+  onward i bs next = batchLines m calibrations (n - i) (i + 3) bs (drop next s)
+
   -- i of the n batch lines from at on are read, up to next
   pub record BatchesSofar (sheet : Sheet) (next i : ℕ) : Type 0 where
     pub batches : List Batch
     pub count : length batches ≡ i
     pub fit : every narrow batches ≡ true
-    pub same : sheet ≡ sheetOf (booked m batches)
+    pub same : sheet ≡ sheetOf (booked m calibrations batches)
     pub room : next ≤ length s
     pub few : i ≤ n
-    pub rest : batchLines m (n - i) (i + 2) batches (drop next s) ≡ batchLines m n 2 [] (drop at s)
+    pub rest : onward i batches next ≡ whole
 
   -- no line is read yet
-  pub none-yet : at ≤ length s →
-      BatchesSofar (held m 0 (replicate 200 0) (replicate 200 0) (replicate 200 0) (replicate 4800 0)) at 0
+  pub none-yet : (row : List ℕ) → at ≤ length s → padded 24 calibrations ≡ row →
+      BatchesSofar (held m 0 row (replicate 200 0) (replicate 200 0) (replicate 200 0) (replicate 4800 0)) at 0
   unfolding every sheetOf
-  none-yet h =
+  none-yet row h e =
       let c : n - 0 ≡ n = omega arith in
       record {
         batches = [];
         count = refl;
         fit = refl;
-        same = refl;
+        same = rw e;
         room = h;
         few = omega arith;
-        rest = ap (λ (k : ℕ). batchLines m k 2 [] (drop at s)) c;
+        rest = ap (λ (k : ℕ). batchLines m calibrations k 3 [] (drop at s)) c;
       }
 
   module _ (sheet : Sheet) (next i : ℕ) (f : BatchesSofar sheet next i) where
@@ -73,14 +82,14 @@ module _ (s : List ℕ) (at m n : ℕ) where
         ∙ length-padded 4800 r (omega (arith, length-rows (f .batches) (f .fit), f .count, f .few))
 
     step : (x : Line) (h : next ≤ length s) (g : LineGiven s next h m x) → i < n →
-        batchLines m (n - (i + 1)) (i + 1 + 2) (f .batches ++ (g .batch ∷ [])) (drop (x .next) s) ≡ batchLines m n 2 [] (drop at s)
+        onward (i + 1) (f .batches ++ (g .batch ∷ [])) (x .next) ≡ whole
     unfolding batchLines
     step x h g l =
         let e : n - i ≡ suc (n - (i + 1)) = omega arith in
-        let j : i + 1 + 2 ≡ suc (i + 2) = omega arith in
-        let b : batchLines m (n - i) (i + 2) (f .batches) (drop next s)
-        ≡ batchLines m (n - (i + 1)) (suc (i + 2)) (f .batches ++ (g .batch ∷ [])) (drop (x .next) s) = rw (e, g .part) in
-        ap (λ (k : ℕ). batchLines m (n - (i + 1)) k (f .batches ++ (g .batch ∷ [])) (drop (x .next) s)) j ∙ sym b ∙ f .rest
+        let j : i + 1 + 3 ≡ suc (i + 3) = omega arith in
+        let b : onward i (f .batches) next
+        ≡ batchLines m calibrations (n - (i + 1)) (suc (i + 3)) (f .batches ++ (g .batch ∷ [])) (drop (x .next) s) = rw (e, g .part) in
+        ap (λ (k : ℕ). batchLines m calibrations (n - (i + 1)) k (f .batches ++ (g .batch ∷ [])) (drop (x .next) s)) j ∙ sym b ∙ f .rest
 
     -- one line more
     pub one-more : (x : Line) (h : next ≤ length s) → LineGiven s next h m x → i < n → n ≤ 200
@@ -88,41 +97,41 @@ module _ (s : List ℕ) (at m n : ℕ) where
     one-more x h g l u =
         let b : Batch = g .batch in
         let e : appended sheet (x .minutes) (x .place) (x .count) (x .list)
-        ≡ appended (sheetOf (booked m (f .batches))) (b .minutes) (b .place) (length (b .list)) (padded 24 (b .list)) =
+        ≡ appended (sheetOf (booked m calibrations (f .batches))) (b .minutes) (b .place) (length (b .list)) (padded 24 (b .list)) =
         rw (f .same, g .minutes, g .place, g .count, g .list) in
         record {
           batches = f .batches ++ (b ∷ []);
           count = omega (arith, length-append (f .batches) (b ∷ []), f .count);
           fit = every-append narrow (f .batches) (b ∷ []) (f .fit) (every-one narrow b (le-leb (length (b .list)) 24 (g .short)));
-          same = e ∙ append-law (booked m (f .batches)) b (omega (arith, f .count)) (f .fit) (g .short);
+          same = e ∙ append-law (booked m calibrations (f .batches)) b (omega (arith, f .count)) (f .fit) (g .short);
           room = g .room;
           few = omega arith;
           rest = step x h g l;
         }
 
     -- the next line is refused
-    pub then-refused : (x : Line) → x ≡ lineAs (length s) (i + 2) (batchLine m (drop next s)) → (x .refusal ≡ Nothing → ⊥) → i < n
-        → unread (x .refusal) (x .line) ≡ readAs (batchLines m n 2 [] (drop at s))
+    pub then-refused : (x : Line) → x ≡ lineAs (length s) (i + 3) (batchLine m (drop next s)) → (x .refusal ≡ Nothing → ⊥) → i < n
+        → unread (x .refusal) (x .line) ≡ readAs whole
     then-refused x e o l =
         let c : suc (n - (i + 1)) ≡ n - i = omega arith in
-        line-refused s next m (n - (i + 1)) (i + 2) (f .batches) x e o
-        ∙ ap readAs (ap (λ (k : ℕ). batchLines m k (i + 2) (f .batches) (drop next s)) c ∙ f .rest)
+        line-refused s next m calibrations (n - (i + 1)) (i + 3) (f .batches) x e o
+        ∙ ap readAs (ap (λ (k : ℕ). batchLines m calibrations k (i + 3) (f .batches) (drop next s)) c ∙ f .rest)
 
     -- bytes are left over
-    pub left-over : n ≤ i → next < length s → unread Malformed (i + 2) ≡ readAs (batchLines m n 2 [] (drop at s))
+    pub left-over : n ≤ i → next < length s → unread Malformed (i + 3) ≡ readAs whole
     unfolding batchLines
     left-over l h =
         let c : n - i ≡ 0 = omega arith in
-        let e : batchLines m (n - i) (i + 2) (f .batches) (drop next s) ≡ refusedAt malformed (i + 2) =
+        let e : onward i (f .batches) next ≡ refusedAt malformed (i + 3) =
         rw (c, drop-cons s next 0 h) in
         ap readAs (sym e ∙ f .rest)
 
     -- nothing follows
     pub all-read : n ≤ i → length s ≤ next
-        → record { refusal = Nothing; line = 0; sheet = sheet } ≡ readAs (batchLines m n 2 [] (drop at s))
+        → record { refusal = Nothing; line = 0; sheet = sheet } ≡ readAs whole
     unfolding batchLines
     all-read l h =
         let c : n - i ≡ 0 = omega arith in
-        let e : batchLines m (n - i) (i + 2) (f .batches) (drop next s) ≡ accepted (booked m (f .batches)) =
+        let e : onward i (f .batches) next ≡ accepted (booked m calibrations (f .batches)) =
         rw (c, drop-of-length-le s h) in
         ap (λ (z : Sheet). record { refusal = Nothing; line = 0; sheet = z }) (f .same) ∙ ap readAs (sym e ∙ f .rest)

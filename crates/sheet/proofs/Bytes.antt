@@ -1,13 +1,13 @@
--- The first 32,614 bytes decide: line 1 has 13 bytes and a batch line at most 163, so the longest sheet has 32,613 bytes, and
--- one byte more shows that a file is longer.
+-- The first 32,759 bytes decide: line 1 has 13 bytes, line 2 at most 145 and a batch line at most 163, so the longest sheet has
+-- 32,758 bytes, and one byte more shows that a file is longer.
 use Prim.Native.Nat.{ℕ, zero, suc, _+_, _-_, _*_, _≤_}
 use mathlib.Core.Path.{_≡_, refl}
 use mathlib.Core.List.{List, [], _∷_, _++_}
 use native.Mathlib.Omega.{arith}
 use lib.ListN.{take, drop}
 use Rattle.rules.specs.Sheet.{Batch}
-use Rattle.rules.specs.Read.{Part, Reading, onLine, batchLines, read}
-use Rattle.sheet.proofs.Extent.{Near, refuse, give, head-near, batch-near}
+use Rattle.rules.specs.Read.{Part, Head, Reading, onLine, batchLines, linesAfter, read}
+use Rattle.sheet.proofs.Extent.{Near, refuse, give, Sizes, head-near, calibration-near, batch-near}
 
 line-near : {X : Type 0} {P : X → Type 0} {b w : ℕ} {r : List ℕ} {p q : Part X} (j : ℕ) (f : X → List ℕ → Reading)
     → Near P b w r p q
@@ -16,18 +16,23 @@ line-near : {X : Type 0} {P : X → Type 0} {b w : ℕ} {r : List ℕ} {p q : Pa
 line-near j f (refuse e) n = refl
 line-near j f (give x k a i l) n = n x k a i
 
-lines-near : (m c j : ℕ) (bs : List Batch) (w : ℕ) (r : List ℕ) → m ≤ 24 → 163 * c + 1 ≤ w
-    → batchLines m c j bs (take w r) ≡ batchLines m c j bs r
+lines-near : (m : ℕ) (l : List ℕ) (c j : ℕ) (bs : List Batch) (w : ℕ) (r : List ℕ) → m ≤ 24 → 163 * c + 1 ≤ w
+    → batchLines m l c j bs (take w r) ≡ batchLines m l c j bs r
 unfolding batchLines
-lines-near m zero j bs zero r g h = absurd (omega arith)
-lines-near m zero j bs (suc w) [] g h = refl
-lines-near m zero j bs (suc w) (x ∷ r) g h = refl
-lines-near m (suc c) j bs w r g h =
+lines-near m l zero j bs zero r g h = absurd (omega arith)
+lines-near m l zero j bs (suc w) [] g h = refl
+lines-near m l zero j bs (suc w) (x ∷ r) g h = refl
+lines-near m l (suc c) j bs w r g h =
     line-near j _ (batch-near m w r g (omega arith))
-    (λ b k a i. lines-near m c (suc j) (bs ++ (b ∷ [])) (w - k) (drop k r) g (omega arith))
+    (λ b k a i. lines-near m l c (suc j) (bs ++ (b ∷ [])) (w - k) (drop k r) g (omega arith))
 
-pub read-bounded : (s : List ℕ) → read (take 32614 s) ≡ read s
+after-near : (h : Head) (w : ℕ) (r : List ℕ) → Sizes h → 145 + 163 * 200 + 1 ≤ w → linesAfter h (take w r) ≡ linesAfter h r
+unfolding linesAfter
+after-near h w r a g =
+    line-near 2 _ (calibration-near (h .m) w r (a .instruments) (omega arith))
+    (λ l k b i. lines-near (h .m) l (h .n) 3 [] (w - k) (drop k r) (a .instruments) (omega (arith, a .batches)))
+
+pub read-bounded : (s : List ℕ) → read (take 32759 s) ≡ read s
 unfolding read
 read-bounded s =
-    line-near 1 _ (head-near 32614 s (omega arith))
-    (λ h k a i. lines-near (h .m) (h .n) 2 [] (32614 - k) (drop k s) (a .instruments) (omega (arith, a .batches)))
+    line-near 1 _ (head-near 32759 s (omega arith)) (λ h k a i. after-near h (32759 - k) (drop k s) a (omega arith))

@@ -9,10 +9,10 @@ use lib.ListN.{length, take, drop, length-append, length-take, length-drop}
 use lib.Seq.{drop-drop, take-take, take-nil}
 use borrow.Author.Tests.{leb-true, ltb-true, ltb-false, lt-ltb, le-ltb}
 use Rattle.rules.specs.Fold.{_and_, _or_, mem}
-use Rattle.rules.specs.Refusal.{Refusal, malformed}
-use Rattle.rules.specs.Sheet.{Batch, goodInstruments, goodMinutes, isInstrument}
+use Rattle.rules.specs.Refusal.{Refusal, malformed, badList, badCalibration}
+use Rattle.rules.specs.Sheet.{Batch, goodInstruments, goodMinutes, goodCalibration, isInstrument}
 use Rattle.rules.specs.Field.{Field, value, blank, fault, field}
-use Rattle.rules.specs.Read.{Part, gives, refuses, andThen, orRefuse, fieldPart, numberAt, blankZero, placeAt, endOfLine, Head, headLine, instrumentsAt, placeOr, batchLine}
+use Rattle.rules.specs.Read.{Part, gives, refuses, andThen, orRefuse, fieldPart, numberAt, blankZero, placeAt, endOfLine, Head, headLine, calibrationsAt, calibrationLine, instrumentsAt, placeOr, batchLine}
 use Rattle.theory.proofs.Logic.{byTest, and-right}
 use Rattle.fields.proofs.Reading.{six, six-place}
 
@@ -107,26 +107,44 @@ place-near w r h = rw (field-cut w r h, drop-cut 6 w r h) (part-near w r (blankZ
 
 -- ---- the parts of a sheet
 
-pub instruments-near : (m c : ℕ) (l : List ℕ) (w : ℕ) (r : List ℕ) → 6 * c ≤ w
-    → Near (λ (k : List ℕ). length k ≡ length l + c) (6 * c) w r (instrumentsAt m c l r) (instrumentsAt m c l (take w r))
-unfolding instrumentsAt
-instruments-near m zero l w r h =
-    let e : w - 0 ≡ w = omega arith in
-    subst (λ (v : ℕ). Near (λ (k : List ℕ). length k ≡ length l + 0) 0 w r (gives l r) (gives l (take v r))) e
-    (give l 0 (omega arith) (omega arith) (omega arith))
-instruments-near m (suc c) l w r h =
-    widen (λ (k : List ℕ). length k ≡ length l + suc c) (6 * suc c) (λ k e. omega (arith, e)) (omega arith)
-    (then-near (6 * c) _ (number-near w r (omega arith)) (λ i k a b.
-    or-near (isInstrument m i and not (mem i l)) _ (λ t.
-    widen (λ (k : List ℕ). length k ≡ length l + suc c) (6 * c) (λ k e. omega (arith, e, length-append l (i ∷ []))) (omega arith)
-    (instruments-near m c (l ++ (i ∷ [])) (w - k) (drop k r) (omega arith)))))
-
--- the end of a line that gives x
+-- the end of a part that gives x
 last-near : {X : Type 0} (P : X → Type 0) (x : X) (w : ℕ) (r : List ℕ) → P x
     → Near P 0 w r (gives x r) (gives x (take w r))
 last-near P x w r a =
     let e : w - 0 ≡ w = omega arith in
     subst (λ (v : ℕ). Near P 0 w r (gives x r) (gives x (take v r))) e (give x 0 a (omega arith) (omega arith))
+
+-- a list of n entries
+abbrev pub sized : ℕ → List ℕ → Type 0
+sized n l = length l ≡ n
+
+-- one entry more of a list, where what comes after it reads c more: each is a field of six columns
+more-near : (c : ℕ) (l : List ℕ) (w : ℕ) (r : List ℕ) (good : ℕ → Bool) (e : Refusal) (f : List ℕ → List ℕ → Part (List ℕ))
+    → 6 * suc c ≤ w
+    → ((l : List ℕ) (w : ℕ) (r : List ℕ) → 6 * c ≤ w → Near (sized (length l + c)) (6 * c) w r (f l r) (f l (take w r)))
+    → Near (sized (length l + suc c)) (6 * suc c) w r
+    (andThen (numberAt r) (λ i u. orRefuse (good i) e (f (l ++ (i ∷ [])) u)))
+    (andThen (numberAt (take w r)) (λ i u. orRefuse (good i) e (f (l ++ (i ∷ [])) u)))
+more-near c l w r good e f h n =
+    widen (sized (length l + suc c)) (6 * suc c) (λ k a. a) (omega arith)
+    (then-near (6 * c) _ (number-near w r (omega arith)) (λ i k a b.
+    or-near (good i) e (λ t.
+    widen (sized (length l + suc c)) (6 * c) (λ k z. omega (arith, z, length-append l (i ∷ []))) (omega arith)
+    (n (l ++ (i ∷ [])) (w - k) (drop k r) (omega arith)))))
+
+instruments-near : (m c : ℕ) (l : List ℕ) (w : ℕ) (r : List ℕ) → 6 * c ≤ w
+    → Near (sized (length l + c)) (6 * c) w r (instrumentsAt m c l r) (instrumentsAt m c l (take w r))
+unfolding instrumentsAt
+instruments-near m zero l w r h = last-near (sized (length l + 0)) l w r (omega arith)
+instruments-near m (suc c) l w r h =
+    more-near c l w r (λ i. isInstrument m i and not (mem i l)) badList (instrumentsAt m c) h (instruments-near m c)
+
+calibrations-near : (c : ℕ) (l : List ℕ) (w : ℕ) (r : List ℕ) → 6 * c ≤ w
+    → Near (sized (length l + c)) (6 * c) w r (calibrationsAt c l r) (calibrationsAt c l (take w r))
+unfolding calibrationsAt
+calibrations-near zero l w r h = last-near (sized (length l + 0)) l w r (omega arith)
+calibrations-near (suc c) l w r h =
+    more-near c l w r goodCalibration badCalibration (calibrationsAt c) h (calibrations-near c)
 
 -- the sizes of line 1 are within the limits
 pub record Sizes (h : Head) : Type 0 where
@@ -143,6 +161,14 @@ head-near w r h =
     end-near (w - k - i) (drop i (drop k r)) _ (omega arith)
     (last-near Sizes (record { m = m; n = n }) (w - k - i - 1) (drop 1 (drop i (drop k r)))
     (record { instruments = leb-true m 24 (and-right (leb 1 m) _ t); batches = leb-true n 200 u }))))))
+
+pub calibration-near : (m w : ℕ) (r : List ℕ) → m ≤ 24 → 145 ≤ w
+    → Near (sized m) 145 w r (calibrationLine m r) (calibrationLine m (take w r))
+unfolding calibrationLine
+calibration-near m w r g h =
+    then-near 1 _
+    (widen (sized m) 144 (λ k e. omega (arith, e)) (omega arith) (calibrations-near m [] w r (omega arith))) (λ l k a b.
+    end-near (w - k) (drop k r) _ (omega arith) (last-near (sized m) l (w - k - 1) (drop 1 (drop k r)) a))
 
 -- a batch whose list fits a row
 abbrev pub short : Batch → Type 0

@@ -9,6 +9,7 @@ pub mod Lines
 pub mod Extent
 pub mod Bytes
 pub mod PartsRead
+pub mod CalibrationsRead
 pub mod BatchesRead
 pub mod Keeps
 pub mod Accepted

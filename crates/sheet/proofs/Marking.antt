@@ -57,7 +57,7 @@ marks-more l x p q =
 
 -- ---- a store in a row
 
-set-behind : (p q : List ℕ) (k v : ℕ) → set (p ++ q) (length p + k) v ≡ p ++ set q k v
+pub set-behind : (p q : List ℕ) (k v : ℕ) → set (p ++ q) (length p + k) v ≡ p ++ set q k v
 set-behind [] q k v = let e : 0 + k ≡ k = omega arith in rw e
 set-behind (x ∷ p) q k v =
     let e : length (x ∷ p) + k ≡ suc (length p + k) = omega arith in

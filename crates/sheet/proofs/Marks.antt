@@ -9,33 +9,31 @@ use lib.ListN.{length, getD, take, drop, replicate, length-append, length-replic
 use lib.Seq.{paste, length-paste, take-suc, take-all, getD-take, getD-drop, length-take-le}
 use lib.Dec.{leb}
 use borrow.Author.Tests.{leb-true}
-use Rattle.rules.specs.Sheet.{Batch, isInstrument, goodList}
-use Rattle.rules.specs.Instance.{Job, noJob, n, instance}
+use Rattle.rules.specs.Sheet.{Batch, noBatchHere, isInstrument, goodList}
 use Rattle.rules.specs.Marks.{marksOf}
 use Rattle.theory.proofs.Logic.{and-left, and-right}
 use Rattle.theory.proofs.Member.{every-at}
 use Rattle.theory.proofs.Marks.{length-marks}
-use Rattle.theory.proofs.Sound.{jobs-count}
 use Rattle.sheet.specs.declared.Sheet.{Sheet}
 use Rattle.sheet.specs.Represent.{padded, batchAt, bookOf, Sound}
-use Rattle.sheet.specs.View.{markRows, marks}
+use Rattle.sheet.specs.View.{markRows}
 use Rattle.sheet.proofs.Padded.{padded-room, paste-at, paste-append}
-use Rattle.sheet.proofs.SoundArrays.{book-m, book-size, book-at, job-list, good-entry, few-instruments, good-index, list-size}
+use Rattle.sheet.proofs.SoundArrays.{book-m, book-size, book-at, list-at, good-entry, few-instruments, good-index, list-size}
 
 -- ---- rows
 
-length-mark-rows : (js : List Job) → length (markRows js) ≡ length js * 24
+pub length-mark-rows : (bs : List Batch) → length (markRows bs) ≡ length bs * 24
 unfolding markRows
 length-mark-rows [] = refl
-length-mark-rows (j ∷ js) =
-    omega (arith, length-append (marksOf (j .list)) (markRows js), length-marks (j .list), length-mark-rows js)
+length-mark-rows (b ∷ bs) =
+    omega (arith, length-append (marksOf (b .list)) (markRows bs), length-marks (b .list), length-mark-rows bs)
 
-mark-rows-last : (js : List Job) (j : Job) → markRows (js ++ (j ∷ [])) ≡ markRows js ++ marksOf (j .list)
+pub mark-rows-last : (bs : List Batch) (b : Batch) → markRows (bs ++ (b ∷ [])) ≡ markRows bs ++ marksOf (b .list)
 unfolding markRows
-mark-rows-last [] j = append-nil (marksOf (j .list))
-mark-rows-last (i ∷ js) j =
-    ap (λ (r : List ℕ). marksOf (i .list) ++ r) (mark-rows-last js j)
-    ∙ sym (append-assoc (marksOf (i .list)) (markRows js) (marksOf (j .list)))
+mark-rows-last [] b = append-nil (marksOf (b .list))
+mark-rows-last (c ∷ bs) b =
+    ap (λ (r : List ℕ). marksOf (c .list) ++ r) (mark-rows-last bs b)
+    ∙ sym (append-assoc (marksOf (c .list)) (markRows bs) (marksOf (b .list)))
 
 -- the rows of the first i lists
 abbrev pub rowsSofar : List ℕ → List ℕ → ℕ → List ℕ
@@ -48,15 +46,15 @@ length-rows-to counts lists (suc i) =
     let l : List ℕ = take (getD counts i 0) (drop (i * 24) lists) in
     omega (arith, length-append (rowsSofar counts lists i) (marksOf l), length-marks l, length-rows-to counts lists i)
 
-rows-are : (s : Sheet) (i : ℕ) → i ≤ s .n → rowsSofar (s .counts) (s .lists) i ≡ markRows (take i (instance (bookOf s) .jobs))
+rows-are : (s : Sheet) (i : ℕ) → i ≤ s .n → rowsSofar (s .counts) (s .lists) i ≡ markRows (take i (bookOf s .batches))
 unfolding markRows
 rows-are s zero h = refl
 rows-are s (suc i) h =
-    let js = instance (bookOf s) .jobs in
-    let k : i < length js = omega (arith, jobs-count (bookOf s), book-size s) in
+    let bs = bookOf s .batches in
+    let k : i < length bs = omega (arith, book-size s) in
     ap (λ (r : List ℕ). r ++ marksOf (batchAt s i .list)) (rows-are s i (omega arith))
-    ∙ ap (λ (l : List ℕ). markRows (take i js) ++ marksOf l) (sym (job-list s i h))
-    ∙ sym (ap markRows (take-suc js i noJob k) ∙ mark-rows-last (take i js) (getD js i noJob))
+    ∙ ap (λ (l : List ℕ). markRows (take i bs) ++ marksOf l) (sym (list-at s i h))
+    ∙ sym (ap markRows (take-suc bs i noBatchHere k) ∙ mark-rows-last (take i bs) (getD bs i noBatchHere))
 
 -- ---- the loop
 
@@ -99,13 +97,11 @@ module _ {counts lists : List ℕ} {n : ℕ} {a : List ℕ} {i : ℕ} (e : Rows 
       }
 
 pub rows-end : (s : Sheet) (a : List ℕ) (i : ℕ) → Rows (s .counts) (s .lists) (s .n) a i → s .n ≤ i →
-    a ≡ marks (instance (bookOf s))
-unfolding marks
+    a ≡ padded 4800 (markRows (bookOf s .batches))
 rows-end s a i e h =
-    let js = instance (bookOf s) .jobs in
+    let bs = bookOf s .batches in
     let z : i ≡ s .n = omega (arith, e .few) in
-    e .same ∙ ap (padded 4800)
-    (rows-are s i (e .few) ∙ ap markRows (take-all i js (omega (arith, jobs-count (bookOf s), book-size s))))
+    e .same ∙ ap (padded 4800) (rows-are s i (e .few) ∙ ap markRows (take-all i bs (omega (arith, book-size s))))
 
 -- ---- what a list names
 

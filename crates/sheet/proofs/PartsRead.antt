@@ -7,7 +7,7 @@ use denote.Enum.Declared.{tagOf}
 use types.Run.{OneOf, miss}
 use lib.ListN.{length, drop, length-drop}
 use lib.Seq.{drop-drop}
-use Rattle.rules.specs.Refusal.{malformed, badSize, badLength, badList, badPlace, noBatch, sheetFull, levelAbove, bufferShort}
+use Rattle.rules.specs.Refusal.{malformed, badSize, badLength, badList, badPlace, noBatch, sheetFull, levelAbove, bufferShort, badCalibration}
 use Rattle.rules.specs.Refusal as R
 use Rattle.rules.specs.Sheet.{Batch}
 use Rattle.rules.specs.Read.{Part, gives, refuses, batchLine, Reading, onLine, batchLines}
@@ -31,13 +31,14 @@ coded-none noBatch q = let z : _≡_ {A = ℕ} 0 1 = cc in omega arith
 coded-none sheetFull q = let z : _≡_ {A = ℕ} 0 1 = cc in omega arith
 coded-none levelAbove q = let z : _≡_ {A = ℕ} 0 1 = cc in omega arith
 coded-none bufferShort q = let z : _≡_ {A = ℕ} 0 1 = cc in omega arith
+coded-none badCalibration q = let z : _≡_ {A = ℕ} 0 1 = cc in omega arith
 
 -- a tag of the enum other than the first is a refusal
-pub some-refusal : (e : Refusal) → OneOf (1 ∷ 2 ∷ 3 ∷ 4 ∷ 5 ∷ 6 ∷ 7 ∷ 8 ∷ 9 ∷ []) (tagOf the-type e) → e ≡ Nothing → ⊥
-some-refusal e h q = miss (1 ∷ 2 ∷ 3 ∷ 4 ∷ 5 ∷ 6 ∷ 7 ∷ 8 ∷ 9 ∷ []) 0 tt (rw q at h)
+pub some-refusal : (e : Refusal) → OneOf (1 ∷ 2 ∷ 3 ∷ 4 ∷ 5 ∷ 6 ∷ 7 ∷ 8 ∷ 9 ∷ 10 ∷ []) (tagOf the-type e) → e ≡ Nothing → ⊥
+some-refusal e h q = miss (1 ∷ 2 ∷ 3 ∷ 4 ∷ 5 ∷ 6 ∷ 7 ∷ 8 ∷ 9 ∷ 10 ∷ []) 0 tt (rw q at h)
 
 -- what follows k bytes from at on is found again by its length
-suffix : (s : List ℕ) (at k : ℕ) (u : List ℕ) → at ≤ length s → k ≤ length (drop at s) → drop k (drop at s) ≡ u
+pub suffix : (s : List ℕ) (at k : ℕ) (u : List ℕ) → at ≤ length s → k ≤ length (drop at s) → drop k (drop at s) ≡ u
     → drop (length s - length u) s ≡ u
 suffix s at k u h l v =
     let a : length (drop k (drop at s)) ≡ length u = ap length v in
@@ -76,10 +77,11 @@ module _ (s : List ℕ) (at : ℕ) (h : at ≤ length s) where
           })
 
 -- a refusal is handed on
-pub line-refused : (s : List ℕ) (at m c j : ℕ) (bs : List Batch) (i : Line) → i ≡ lineAs (length s) j (batchLine m (drop at s))
-    → (i .refusal ≡ Nothing → ⊥) → unread (i .refusal) (i .line) ≡ readAs (batchLines m (suc c) j bs (drop at s))
+pub line-refused : (s : List ℕ) (at m : ℕ) (l : List ℕ) (c j : ℕ) (bs : List Batch) (i : Line)
+    → i ≡ lineAs (length s) j (batchLine m (drop at s)) → (i .refusal ≡ Nothing → ⊥)
+    → unread (i .refusal) (i .line) ≡ readAs (batchLines m l (suc c) j bs (drop at s))
 unfolding batchLines
-line-refused s at m c j bs i e n = from (batchLine m (drop at s)) (λ b r. batchLines m c (suc j) (bs ++ (b ∷ [])) r) e
+line-refused s at m l c j bs i e n = from (batchLine m (drop at s)) (λ b r. batchLines m l c (suc j) (bs ++ (b ∷ [])) r) e
   where
     from : (q : Part Batch) (f : Batch → List ℕ → Reading) → i ≡ lineAs (length s) j q
         → unread (i .refusal) (i .line) ≡ readAs (onLine j q f)

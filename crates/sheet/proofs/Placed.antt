@@ -5,24 +5,23 @@ use mathlib.Core.Bool.{true}
 use mathlib.Core.List.{List, [], _∷_, _++_, map}
 use native.Mathlib.Omega.{arith}
 use lib.ListN.{length, getD, set, take, replicate, length-map, length-take}
-use lib.Seq.{paste, take-suc, getD-take}
+use lib.Seq.{paste, take-all, take-suc, getD-take}
 use Rattle.rules.specs.Fold.{at, mem, listTo}
-use Rattle.rules.specs.Sheet.{Book, Batch, size}
+use Rattle.rules.specs.Sheet.{Book, Batch, size, batch, noBatchHere}
 use Rattle.rules.specs.Edit.{kept}
-use Rattle.rules.specs.Instance.{Instance, Assignment, instance, n, places, listOf, eligible}
+use Rattle.rules.specs.Instance.{Assignment, instance}
 use Rattle.rules.specs.Run.{placeAll, withPlaces}
-use Rattle.theory.proofs.Logic.{conflict}
-use Rattle.theory.proofs.Member.{mem-none}
 use Rattle.theory.proofs.Valid.{Permitted}
-use Rattle.theory.proofs.Sound.{jobs-count, placed-places, kept-listed}
+use Rattle.theory.proofs.Sound.{good-some, kept-listed}
+use Rattle.theory.proofs.Jobs.{batches-first, placed-at, front-placed, batch-listed, listed-sound}
 use Rattle.sheet.specs.declared.Sheet.{Sheet}
 use Rattle.sheet.specs.Represent.{padded, rows, sheetOf, batchAt, bookOf, Sound}
 use Rattle.sheet.specs.View.{keptPlaces}
 use Rattle.sheet.proofs.Padded.{paste-at}
-use Rattle.sheet.proofs.SoundArrays.{book-size, job-list}
+use Rattle.sheet.proofs.Represent.{sheet-sound}
+use Rattle.sheet.proofs.SoundArrays.{book-size, list-at, good-index}
 use Rattle.theory.proofs.Enter.{Entered, entered-step, entered-end}
 use Rattle.theory.proofs.Entries.{length-listTo, getD-listTo}
-use Rattle.sheet.proofs.SoundViews.{view-size}
 
 -- ---- what the places do not touch
 
@@ -61,6 +60,7 @@ abbrev pub placing : Sheet → List ℕ → Sheet
 placing s p = record {
   m = s .m;
   n = s .n;
+  calibrations = s .calibrations;
   minutes = s .minutes;
   places = p;
   counts = s .counts;
@@ -73,71 +73,73 @@ unfolding sheetOf
 place-law k x h =
     let bs = k .batches in
     rw (
-      paste-front 200 (places k) x (size k) (length-map bs (λ (b : Batch). b .place)) h,
+      paste-front 200 (map (λ (b : Batch). b .place) bs) x (size k) (length-map bs (λ (b : Batch). b .place)) h,
       placed-count bs x,
       placed-minutes bs x,
       placed-counts bs x,
       placed-rows bs x,
-      placed-places k x h,
+      placed-at bs x (omega arith),
+      take-all (length bs) x (omega arith),
     )
 
 -- ---- the places kept
 
-kept-size : (I : Instance) (x : List ℕ) → length (keptPlaces I x) ≡ n I
+kept-size : (k : Book) (x : List ℕ) → length (keptPlaces k x) ≡ size k
 unfolding keptPlaces
-kept-size I x = length-listTo (n I) (λ b. kept (at x b) (listOf I b))
+kept-size k x = length-listTo (size k) (λ b. kept (at x b) (batch k b .list))
 
-kept-at : (I : Instance) (x : List ℕ) (b : ℕ) → b < n I → getD (keptPlaces I x) b 0 ≡ kept (getD x b 0) (listOf I (suc b))
+kept-at : (k : Book) (x : List ℕ) (b : ℕ) → b < size k →
+    getD (keptPlaces k x) b 0 ≡ kept (getD x b 0) (getD (k .batches) b noBatchHere .list)
 unfolding keptPlaces
-kept-at I x b h = getD-listTo (n I) (λ b. kept (at x b) (listOf I b)) b h
+kept-at k x b h = getD-listTo (size k) (λ b. kept (at x b) (batch k b .list)) b h
 
 -- one batch more has its place
 pub kept-step : (s : Sheet) (x : List ℕ) {a : List ℕ} {b : ℕ} (p : ℕ) →
-    Entered (s .places) 0 (keptPlaces (instance (bookOf s)) x) (s .n) a b → s .n ≤ length (s .places) → b < s .n →
+    Entered (s .places) 0 (keptPlaces (bookOf s) x) (s .n) a b → s .n ≤ length (s .places) → b < s .n →
     p ≡ kept (getD x b 0) (batchAt s b .list) →
-    Entered (s .places) 0 (keptPlaces (instance (bookOf s)) x) (s .n) (set a b p) (b + 1)
+    Entered (s .places) 0 (keptPlaces (bookOf s) x) (s .n) (set a b p) (b + 1)
 kept-step s x {a} {b} p e h g q =
-    let I = instance (bookOf s) in
-    let f : p ≡ getD (keptPlaces I x) b 0 =
-    q ∙ ap (kept (getD x b 0)) (sym (job-list s b g)) ∙ sym (kept-at I x b (omega (arith, view-size s))) in
+    let k = bookOf s in
+    let f : p ≡ getD (keptPlaces k x) b 0 =
+    q ∙ ap (kept (getD x b 0)) (sym (list-at s b g)) ∙ sym (kept-at k x b (omega (arith, book-size s))) in
     let z : 0 + b ≡ b = omega arith in
-    rw f (rw z at (entered-step e (omega arith) (omega (arith, kept-size I x, view-size s)) g))
+    rw f (rw z at (entered-step e (omega arith) (omega (arith, kept-size k x, book-size s)) g))
 
 -- all have theirs
 pub kept-end : (s : Sheet) (x : List ℕ) {a : List ℕ} {b : ℕ} → Sound s →
-    Entered (s .places) 0 (keptPlaces (instance (bookOf s)) x) (s .n) a b → s .n ≤ b →
-    placing s a ≡ sheetOf (withPlaces (bookOf s) (keptPlaces (instance (bookOf s)) x))
+    Entered (s .places) 0 (keptPlaces (bookOf s) x) (s .n) a b → s .n ≤ b →
+    placing s a ≡ sheetOf (withPlaces (bookOf s) (keptPlaces (bookOf s) x))
 kept-end s x {a} {b} v e h =
     let k = bookOf s in
-    let y = keptPlaces (instance k) x in
+    let y = keptPlaces k x in
     let z = book-size s in
     ap (placing s) (entered-end e h)
     ∙ ap (λ (j : ℕ). placing s (paste (s .places) 0 y j)) (sym z)
     ∙ ap (λ (t : Sheet). placing t (paste (t .places) 0 y (size k))) (sym (v .arrays))
-    ∙ place-law k y (kept-size (instance k) x ∙ jobs-count k)
+    ∙ place-law k y (kept-size k x)
 
-some : (i : ℕ) (l : List ℕ) → mem i l ≡ true → 0 < length l
-some i [] e = conflict e (mem-none i)
-some i (x ∷ l) e = omega arith
+-- whatever is kept is listed, so the sheet is sound
+pub kept-sound : (s : Sheet) (x : List ℕ) → Sound s → Sound (sheetOf (withPlaces (bookOf s) (keptPlaces (bookOf s) x)))
+kept-sound s x v =
+    let k = bookOf s in
+    sheet-sound (withPlaces k (keptPlaces k x)) (listed-sound k (keptPlaces k x) (v .book)
+    (λ b h. rw (kept-at k x b h)
+    (kept-listed (getD x b 0) _ (good-some (k .m) _ (good-index s v b (omega (arith, book-size s)) .list)))))
 
--- where some assignment is permitted, so is what is kept of any
-pub kept-permitted : (I : Instance) (x : List ℕ) (y : Assignment) → Permitted I y → Permitted I (keptPlaces I x)
-kept-permitted I x y w = record { size = kept-size I x; listed = listed }
-  where
-    listed : (b : ℕ) → 0 < b → b ≤ n I → eligible I b (at (keptPlaces I x) b) ≡ true
-    listed zero p q = absurd (omega arith)
-    listed (suc b) p q =
-        rw (kept-at I x b q) (kept-listed (getD x b 0) (listOf I (suc b)) (some (at y (suc b)) (listOf I (suc b)) (w .listed (suc b) p q)))
-
--- permitted places are kept
-kept-front : (I : Instance) (x : List ℕ) (k : ℕ) → k ≤ length x → ((b : ℕ) → b < k → mem (getD x b 0) (listOf I (suc b)) ≡ true) →
-    listTo k (λ b. kept (at x b) (listOf I b)) ≡ take k x
+-- listed places are kept
+kept-front : (k : Book) (x : List ℕ) (c : ℕ) → c ≤ length x →
+    ((b : ℕ) → b < c → mem (getD x b 0) (getD (k .batches) b noBatchHere .list) ≡ true) →
+    listTo c (λ b. kept (at x b) (batch k b .list)) ≡ take c x
 unfolding listTo kept
-kept-front I x zero h w = refl
-kept-front I x (suc k) h w = rw (kept-front I x k (omega arith) (λ b l. w b (omega arith)), w k (omega arith)) (sym (take-suc x k 0 h))
+kept-front k x zero h w = refl
+kept-front k x (suc c) h w = rw (kept-front k x c (omega arith) (λ b l. w b (omega arith)), w c (omega arith)) (sym (take-suc x c 0 h))
 
-pub kept-taken : (I : Instance) (x : List ℕ) → Permitted I (take (n I) x) → keptPlaces I x ≡ take (n I) x
+-- the places of a permitted assignment's batches are entered as they are
+pub kept-taken : (k : Book) (x : List ℕ) (y : Assignment) → Permitted (instance k) y → take (size k) x ≡ take (size k) y →
+    withPlaces k (keptPlaces k x) ≡ withPlaces k y
 unfolding keptPlaces
-kept-taken I x w =
-    kept-front I x (n I) (omega (arith, length-take (n I) x, w .size))
-    (λ b h. ap (λ (p : ℕ). mem p (listOf I (suc b))) (sym (getD-take (n I) x b 0 h)) ∙ w .listed (suc b) (omega arith) h)
+kept-taken k x y w e =
+    let same : (b : ℕ) → b < size k → getD x b 0 ≡ getD y b 0 = λ b h. sym (getD-take (size k) x b 0 h) ∙ ap (λ (l : List ℕ). getD l b 0) e ∙ getD-take (size k) y b 0 h in
+    let long : size k ≤ length x =
+    omega (arith, ap length e, length-take (size k) x, length-take (size k) y, w .size, batches-first k) in
+    ap (withPlaces k) (kept-front k x (size k) long (λ b h. rw (same b h) (batch-listed k y w b h)) ∙ e) ∙ front-placed k y

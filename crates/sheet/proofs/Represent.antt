@@ -10,7 +10,9 @@ use lib.Dec.{leb}
 use borrow.Author.Tests.{leb-true, le-leb}
 use Rattle.rules.specs.Fold.{every}
 use Rattle.rules.specs.Sheet.{Book, Batch, size, sound, noBatchHere, goodInstruments, goodList, goodBatch}
+use Rattle.rules.specs.Edit.{withBatches}
 use Rattle.theory.proofs.Logic.{and-left, and-right, and-mk}
+use Rattle.theory.proofs.Format.{good-calibrations-is}
 use Rattle.theory.proofs.Sound.{sound-is, good-is}
 use Rattle.sheet.specs.declared.Sheet.{Sheet}
 use Rattle.sheet.specs.Represent.{padded, rows, sheetOf, batchAt, batchesTo, bookOf, Sound, appended}
@@ -91,12 +93,14 @@ batches-to s bs zero h f = refl
 batches-to s bs (suc n) h f =
     rw (batches-to s bs n (omega arith) f, f n h) (sym (take-suc bs n noBatchHere h))
 
-pub book-narrow : (k : Book) → every narrow (k .batches) ≡ true → bookOf (sheetOf k) ≡ k
+book-narrow : (k : Book) → length (k .calibrations) ≡ k .m → every narrow (k .batches) ≡ true → bookOf (sheetOf k) ≡ k
 unfolding bookOf sheetOf batchesTo
-book-narrow k e =
+book-narrow k c e =
     let h : batchesTo (sheetOf k) (size k) ≡ k .batches =
     batches-to (sheetOf k) (k .batches) (size k) (omega arith) (λ b l. batch-at k b e l) ∙ take-all (size k) (k .batches) (omega arith) in
-    rw h
+    let l : take (k .m) (padded 24 (k .calibrations)) ≡ k .calibrations =
+    take-at (k .calibrations) (replicate (24 - length (k .calibrations)) 0) (k .m) c in
+    rw (h, l)
 
 -- the lists of a sound book fit their rows
 good-narrow : (m : ℕ) (bs : List Batch) → m ≤ 24 → every (goodBatch m) bs ≡ true → every narrow bs ≡ true
@@ -114,7 +118,8 @@ sound-narrow k v =
     good-narrow (k .m) (k .batches) (leb-true _ _ (and-right (leb 1 (k .m)) _ (s .instruments))) (s .batches)
 
 pub book-sheet : (k : Book) → sound k ≡ true → bookOf (sheetOf k) ≡ k
-book-sheet k v = book-narrow k (sound-narrow k v)
+book-sheet k v =
+    book-narrow k (good-calibrations-is (k .m) (k .calibrations) (sound-is k v .calibrations) .count) (sound-narrow k v)
 
 -- the sheet of a sound book is sound
 pub sheet-sound : (k : Book) → sound k ≡ true → Sound (sheetOf k)
@@ -124,7 +129,7 @@ sheet-sound k v = record { book = rw (book-sheet k v) v; arrays = rw (book-sheet
 
 pub append-law : (k : Book) (b : Batch) → size k < 200 → every narrow (k .batches) ≡ true → length (b .list) ≤ 24 →
     appended (sheetOf k) (b .minutes) (b .place) (length (b .list)) (padded 24 (b .list))
-    ≡ sheetOf (record { m = k .m; batches = k .batches ++ (b ∷ []) })
+    ≡ sheetOf (withBatches k (k .batches ++ (b ∷ [])))
 unfolding sheetOf
 append-law k b h e l =
     let bs = k .batches in

@@ -4,13 +4,12 @@ use mathlib.Core.Path.{_≡_, refl, sym, ap, _∙_}
 use mathlib.Core.Bool.{true}
 use mathlib.Core.List.{List, [], _∷_}
 use native.Mathlib.Omega.{arith}
-use lib.ListN.{length, getD, length-append, List·getD-append, List·getD-map}
+use lib.ListN.{length, getD, length-append, List·getD-append}
 use lib.Seq.{getD-at}
 use lib.Dec.{leb, ltb}
 use borrow.Author.Tests.{leb-true, ltb-true, ltb-false}
 use Rattle.rules.specs.Fold.{_and_, mem, every}
 use Rattle.rules.specs.Sheet.{Book, Batch, size, batch, isBatch, noBatchHere, goodInstruments, isInstrument, goodList, goodBatch}
-use Rattle.rules.specs.Instance.{Job, noJob, jobOf, instance}
 use Rattle.theory.proofs.Logic.{byTest, and-left, and-right}
 use Rattle.theory.proofs.Member.{every-at}
 use Rattle.theory.proofs.Sound.{Good, good-is, sound-is, good-batch, good-ranged}
@@ -48,10 +47,8 @@ pub book-at : (s : Sheet) (i : ℕ) → i < s .n → getD (bookOf s .batches) i 
 unfolding bookOf
 book-at s i h = batches-at s (s .n) i h
 
-pub job-list : (s : Sheet) (i : ℕ) → i < s .n → getD (instance (bookOf s) .jobs) i noJob .list ≡ batchAt s i .list
-job-list s i h =
-    ap (λ (j : Job). j .list) (List·getD-map jobOf (bookOf s .batches) i noBatchHere)
-    ∙ ap (λ (b : Batch). b .list) (book-at s i h)
+pub list-at : (s : Sheet) (i : ℕ) → i < s .n → getD (bookOf s .batches) i noBatchHere .list ≡ batchAt s i .list
+list-at s i h = ap (λ (b : Batch). b .list) (book-at s i h)
 
 pub number-at : (k : Book) (b : ℕ) → 0 < b → batch k b ≡ getD (k .batches) (b - 1) noBatchHere
 number-at k zero h = absurd (omega arith)

@@ -1,8 +1,8 @@
--- What the calls answer, by the rules: each case of an enum with document 01's number and values.
+-- What the calls answer, by the rules: each case of an enum with the documents' number and values.
 use Prim.Native.Nat.{ℕ}
 use mathlib.Core.Path.{_≡_, refl}
 use mathlib.Core.List.{List, [], _∷_}
-use Rattle.rules.specs.Refusal.{malformed, badSize, badLength, badList, badPlace, noBatch, sheetFull, levelAbove, bufferShort, number}
+use Rattle.rules.specs.Refusal.{malformed, badSize, badLength, badList, badPlace, noBatch, sheetFull, levelAbove, bufferShort, badCalibration, number}
 use Rattle.rules.specs.Refusal as R
 use Rattle.rules.specs.Edit as E
 use Rattle.rules.specs.Read as D
@@ -11,10 +11,10 @@ use Rattle.sheet.specs.declared.Sheet.{Sheet}
 use Rattle.sheet.specs.declared.Edited.{Edited}
 use Rattle.sheet.specs.declared.Reading.{Reading}
 use Rattle.sheet.specs.declared.Refusal.{Refusal}
-use Rattle.sheet.specs.declared.Refusal.the-variants.{Nothing, Malformed, BadSize, BadLength, BadList, BadPlace, NoBatch, SheetFull, LevelAbove, BufferShort}
+use Rattle.sheet.specs.declared.Refusal.the-variants.{Nothing, Malformed, BadSize, BadLength, BadList, BadPlace, NoBatch, SheetFull, LevelAbove, BufferShort, BadCalibration}
 use Rattle.sheet.specs.Represent.{sheetOf, bookOf, blank}
 
--- a refusal's number in document 01; 0 for none
+-- a refusal's number; 0 for none
 abbrev pub numberOf : Refusal → ℕ
 numberOf Nothing = 0
 numberOf Malformed = 1
@@ -26,6 +26,7 @@ numberOf NoBatch = 6
 numberOf SheetFull = 7
 numberOf LevelAbove = 8
 numberOf BufferShort = 9
+numberOf BadCalibration = 10
 
 -- the enum's case for each refusal of the rules
 abbrev pub coded : R.Refusal → Refusal
@@ -38,6 +39,7 @@ coded noBatch = NoBatch
 coded sheetFull = SheetFull
 coded levelAbove = LevelAbove
 coded bufferShort = BufferShort
+coded badCalibration = BadCalibration
 
 -- a refusal and its case have one number
 pub coded-number : (e : R.Refusal) → numberOf (coded e) ≡ number e
@@ -50,6 +52,7 @@ coded-number noBatch = refl
 coded-number sheetFull = refl
 coded-number levelAbove = refl
 coded-number bufferShort = refl
+coded-number badCalibration = refl
 
 -- ---- edits: on a refusal the very same sheet
 
@@ -60,7 +63,7 @@ editedAs s (E.edited k) = record { refusal = Nothing; sheet = sheetOf k }
 unfoldable pub editOf : Sheet → E.Edit → Edited
 editOf s e = editedAs s (E.edit (bookOf s) e)
 
--- what each edit promises: its answer is the rules', and as document 01's numbers too
+-- what each edit promises: its answer is the rules', and as the documents' numbers too
 pub record EditAnswered (s : Sheet) (e : E.Edit) (r : Edited) : Type 0 where
   pub is : r ≡ editOf s e
   pub numbers : numberOf (r .refusal) ∷ [] ≡ answerNumbers (answer (bookOf s) (editing e))

@@ -14,6 +14,7 @@ abbrev pub removed : Sheet → ℕ → Sheet
 removed s i = record {
   m = s .m;
   n = s .n - 1;
+  calibrations = s .calibrations;
   minutes = cut i 1 (s .minutes);
   places = cut i 1 (s .places);
   counts = cut i 1 (s .counts);
@@ -25,6 +26,7 @@ abbrev pub replaced : Sheet → ℕ → ℕ → Sheet
 replaced s i p = record {
   m = s .m;
   n = s .n;
+  calibrations = s .calibrations;
   minutes = s .minutes;
   places = set (s .places) i p;
   counts = s .counts;
@@ -36,6 +38,7 @@ abbrev pub requalified : Sheet → ℕ → ℕ → ℕ → List ℕ → Sheet
 requalified s i p c row = record {
   m = s .m;
   n = s .n;
+  calibrations = s .calibrations;
   minutes = s .minutes;
   places = set (s .places) i p;
   counts = set (s .counts) i c;

@@ -1,4 +1,4 @@
--- What the reader of a batch line answers, by the rules.
+-- What the readers of line 2 and of a batch line answer, by the rules.
 use Prim.Native.Nat.{ℕ, _-_}
 use mathlib.Core.List.{List, []}
 use lib.ListN.{length, replicate}
@@ -10,9 +10,19 @@ use Rattle.rules.specs.Read.{Part, gives, refuses, andThen, orRefuse, endOfLine
 use Rattle.sheet.specs.declared.Reading.{Reading}
 use Rattle.sheet.specs.declared.Refusal.{Refusal}
 use Rattle.sheet.specs.declared.Refusal.the-variants.{Nothing}
+use Rattle.sheet.specs.declared.read.Calibrated.{Calibrated}
 use Rattle.sheet.specs.declared.read.Line.{Line}
 use Rattle.sheet.specs.Represent.{padded, blank}
 use Rattle.sheet.specs.Answers.{coded}
+
+-- ---- line 2 of a sheet of w bytes: where it is refused, all that it would give is 0
+
+abbrev pub noCalibrations : Refusal → Calibrated
+noCalibrations e = record { refusal = e; line = 2; calibrations = replicate 24 0; next = 0 }
+
+abbrev pub calibratedAs : ℕ → Part (List ℕ) → Calibrated
+calibratedAs w (gives l r) = record { refusal = Nothing; line = 0; calibrations = padded 24 l; next = w - length r }
+calibratedAs w (refuses e) = noCalibrations (coded e)
 
 -- ---- a batch line of a sheet of w bytes, at line j: where it is refused, all that it would give is 0
 

@@ -21,6 +21,7 @@ unfoldable pub sheetOf : Book → Sheet
 sheetOf k = record {
   m = k .m;
   n = size k;
+  calibrations = padded 24 (k .calibrations);
   minutes = padded 200 (map (λ (b : Batch). b .minutes) (k .batches));
   places = padded 200 (map (λ (b : Batch). b .place) (k .batches));
   counts = padded 200 (map (λ (b : Batch). length (b .list)) (k .batches));
@@ -41,7 +42,7 @@ batchesTo s zero = []
 batchesTo s (suc b) = batchesTo s b ++ (batchAt s b ∷ [])
 
 unfoldable pub bookOf : Sheet → Book
-bookOf s = record { m = s .m; batches = batchesTo s (s .n) }
+bookOf s = record { m = s .m; calibrations = take (s .m) (s .calibrations); batches = batchesTo s (s .n) }
 
 -- a sheet is sound when it is the sheet of a sound book
 pub record Sound (s : Sheet) : Type 0 where
@@ -53,6 +54,7 @@ abbrev pub appended : Sheet → ℕ → ℕ → ℕ → List ℕ → Sheet
 appended s t p c row = record {
   m = s .m;
   n = s .n + 1;
+  calibrations = s .calibrations;
   minutes = set (s .minutes) (s .n) t;
   places = set (s .places) (s .n) p;
   counts = set (s .counts) (s .n) c;
@@ -64,6 +66,7 @@ abbrev pub blank : Sheet
 blank = record {
   m = 0;
   n = 0;
+  calibrations = replicate 24 0;
   minutes = replicate 200 0;
   places = replicate 200 0;
   counts = replicate 200 0;

@@ -143,9 +143,11 @@ impl Sheet {
         shift_down(&mut counts, at, 1);
         let mut lists = self.lists;
         shift_down(&mut lists, at * Sheet::INSTRUMENTS, Sheet::INSTRUMENTS);
+        let calibrations = self.calibrations;
         Sheet {
             m,
             n: n - 1,
+            calibrations,
             minutes,
             places,
             counts,

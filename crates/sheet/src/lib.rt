@@ -1,4 +1,5 @@
-// The sheet: m instruments and up to 200 batches, read from a file and edited. A sheet goes in by value and comes back.
+// The sheet: m instruments with their calibrations, and up to 200 batches, read from a file and edited. A sheet goes in by value and comes
+// back.
 ghost use mathlib.Core.Path.{_≡_};
 ghost use Prim.Native.Nat.{_+_, _<_, _≤_};
 ghost use lib.Dec.{leb};
@@ -13,7 +14,7 @@ pub mod edit;
 pub mod read;
 pub mod view;
 
-// Document 01's refusals, by name; Nothing is none.
+// The documents' refusals, by name; Nothing is none.
 pub enum Refusal {
     Nothing,
     Malformed,
@@ -25,9 +26,10 @@ pub enum Refusal {
     SheetFull,
     LevelAbove,
     BufferShort,
+    BadCalibration,
 }
 
-// A refusal's number in document 01; 0 for none.
+// A refusal's number; 0 for none.
 pub fn code(refusal: Refusal) -> u32
     ensures { λ r. ⌜ r ≡ numberOf refusal ⌝ }
 {
@@ -42,13 +44,16 @@ pub fn code(refusal: Refusal) -> u32
         Refusal::SheetFull => 7,
         Refusal::LevelAbove => 8,
         Refusal::BufferShort => 9,
+        Refusal::BadCalibration => 10,
     }
 }
 
-// What a sheet holds, in arrays: batch b's list starts at 24 (b - 1) in lists. Whatever is not used is 0.
+// What a sheet holds, in arrays: a calibration for each instrument, 0 for none, and the batches; batch b's list starts at 24 (b - 1) in
+// lists. Whatever is not used is 0.
 pub struct Sheet {
     m: usize,
     n: usize,
+    calibrations: [u8; 24],
     minutes: [u16; 200],
     places: [u8; 200],
     counts: [u8; 200],
@@ -75,6 +80,8 @@ impl Sheet {
 
     pub const MINUTES: usize = 1440;
 
+    pub const CALIBRATION: usize = 240;
+
     // The blank value, which is no sheet: it has no instrument.
     pub fn new() -> Self
         ensures { λ r. ⌜ r ≡ blank ⌝ }
@@ -82,6 +89,7 @@ impl Sheet {
         Self {
             m: 0,
             n: 0,
+            calibrations: [0u8; 24],
             minutes: [0u16; 200],
             places: [0u8; 200],
             counts: [0u8; 200],

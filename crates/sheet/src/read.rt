@@ -3,10 +3,11 @@ ghost use mathlib.Core.Path.{_≡_};
 ghost use mathlib.Core.List.{[]};
 ghost use Prim.Native.Nat.{_≤_, _<_};
 ghost use lib.Dec.{eqb};
-ghost use lib.ListN.{length, drop};
+ghost use lib.ListN.{length, take, drop};
 ghost use Rattle.rules.specs.Fold.{pick};
-ghost use Rattle.rules.specs.Read.{batchLine, batchLines};
-ghost use Rattle.sheet.specs.Lines.{noLine, lineAs, lineList, unread};
+ghost use Rattle.rules.specs.Read.{calibrationLine, batchLine, batchLines, linesAfter};
+ghost use Rattle.sheet.specs.Represent.{padded};
+ghost use Rattle.sheet.specs.Lines.{noCalibrations, calibratedAs, noLine, lineAs, lineList, unread};
 ghost use Rattle.sheet.specs.Answers.{readAs, ReadAnswered};
 use crate::Reading;
 use crate::Refusal;
@@ -18,6 +19,57 @@ use fields::Field;
 use fields::ends_at;
 use fields::field_at;
 use fields::place_at;
+
+// What line 2 gives and where the next line starts, or the refusal with its line.
+struct Calibrated {
+    refusal: Refusal,
+    line: usize,
+    calibrations: [u8; 24],
+    next: usize,
+}
+
+impl Calibrated {
+    fn refused(refusal: Refusal) -> Self
+        ensures { λ r. ⌜ r ≡ noCalibrations refusal ⌝ }
+    {
+        Self {
+            refusal,
+            line: 2,
+            calibrations: [0u8; 24],
+            next: 0,
+        }
+    }
+}
+
+// Line 2, which starts at at: a calibration for each of the m instruments, each judged at its own field, and the LF.
+fn calibration_line(s: &[u8], at: usize, m: usize) -> Calibrated
+    requires { ⌜ (at ≤ length (now s)) × (m ≤ 24) ⌝ }
+    ensures { λ r. ⌜ r ≡ calibratedAs (length (now (s .entry))) (calibrationLine m (drop at (now (s .entry)))) ⌝ }
+{
+    let mut calibrations = [0u8; 24];
+    let mut i = 0;
+    let mut next = at;
+    while i < m {
+        let Field::Value(t) = field_at(s, next) else {
+            return Calibrated::refused(Refusal::Malformed);
+        };
+        if Sheet::CALIBRATION < t as usize {
+            return Calibrated::refused(Refusal::BadCalibration);
+        }
+        calibrations[i] = t as u8;
+        next += 6;
+        i += 1;
+    }
+    if !ends_at(s, next) {
+        return Calibrated::refused(Refusal::Malformed);
+    }
+    Calibrated {
+        refusal: Refusal::Nothing,
+        line: 0,
+        calibrations,
+        next: next + 1,
+    }
+}
 
 // What a batch line gives and where the next line starts, or the refusal with its line.
 struct Line {
@@ -143,10 +195,10 @@ fn refused_at(refusal: Refusal, line: usize) -> Reading
     }
 }
 
-// The n batch lines from at on, the first of which is line 2; nothing may follow.
-fn batch_lines(s: &[u8], at: usize, m: usize, n: usize) -> Reading
-    requires { ⌜ (at ≤ length (now s)) × (m ≤ 24) × (n ≤ 200) ⌝ }
-    ensures { λ r. ⌜ r ≡ readAs (batchLines m n 2 [] (drop at (now (s .entry)))) ⌝ }
+// The n batch lines from at on, the first of which is line 3; nothing may follow. The calibrations stand in the sheet that is read.
+fn batch_lines(s: &[u8], at: usize, m: usize, n: usize, calibrations: [u8; 24]) -> Reading
+    requires { ⌜ (at ≤ length (now s)) × (m ≤ 24) × (n ≤ 200) × (padded 24 (take m calibrations) ≡ calibrations) ⌝ }
+    ensures { λ r. ⌜ r ≡ readAs (batchLines m (take m calibrations) n 3 [] (drop at (now (s .entry)))) ⌝ }
 {
     let mut minutes = [0u16; 200];
     let mut places = [0u8; 200];
@@ -155,7 +207,7 @@ fn batch_lines(s: &[u8], at: usize, m: usize, n: usize) -> Reading
     let mut next = at;
     let mut i = 0;
     while i < n {
-        let b = batch_line(s, next, i + 2, m);
+        let b = batch_line(s, next, i + 3, m);
         let e = b.refusal;
         let Refusal::Nothing = e else {
             return refused_at(e, b.line);
@@ -169,11 +221,12 @@ fn batch_lines(s: &[u8], at: usize, m: usize, n: usize) -> Reading
         i += 1;
     }
     if next < s.len() {
-        return refused_at(Refusal::Malformed, i + 2);
+        return refused_at(Refusal::Malformed, i + 3);
     }
     let sheet = Sheet {
         m,
         n,
+        calibrations,
         minutes,
         places,
         counts,
@@ -184,6 +237,20 @@ fn batch_lines(s: &[u8], at: usize, m: usize, n: usize) -> Reading
         line: 0,
         sheet,
     }
+}
+
+// The lines from line 2 on, which starts at at: the calibrations, and n batches.
+fn lines_after(s: &[u8], at: usize, m: usize, n: usize) -> Reading
+    requires { ⌜ (at ≤ length (now s)) × (m ≤ 24) × (n ≤ 200) ⌝ }
+    ensures { λ r. ⌜ r ≡ readAs (linesAfter (record { m = m; n = n }) (drop at (now (s .entry)))) ⌝ }
+{
+    let c = calibration_line(s, at, m);
+    let e = c.refusal;
+    let Refusal::Nothing = e else {
+        return refused_at(e, c.line);
+    };
+    let calibrations = c.calibrations;
+    batch_lines(s, c.next, m, n, calibrations)
 }
 
 // The sheet that s holds, or the refusal of the first fault and its line. Line 1 has m and n.
@@ -205,5 +272,5 @@ pub fn read(s: &[u8]) -> Reading
     if !ends_at(s, 12) {
         return refused_at(Refusal::Malformed, 1);
     }
-    batch_lines(s, 13, m as usize, n as usize)
+    lines_after(s, 13, m as usize, n as usize)
 }

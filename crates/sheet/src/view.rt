@@ -4,34 +4,41 @@ ghost use mathlib.Core.Path.{_≡_};
 ghost use mathlib.Core.List.{map};
 ghost use lib.ListN.{length, getD, take, drop, replicate};
 ghost use lib.Seq.{paste};
-ghost use Rattle.rules.specs.Sheet.{Batch};
-ghost use Rattle.rules.specs.Instance.{Job, instance, n, places};
+ghost use Rattle.rules.specs.Sheet.{Batch, size};
 ghost use Rattle.rules.specs.Marks.{marksOf};
 ghost use Rattle.rules.specs.Run.{withPlaces};
 ghost use Rattle.sheet.specs.Represent.{Sound, padded, rows, bookOf, sheetOf};
-ghost use Rattle.sheet.specs.View.{marks, keptPlaces};
+ghost use Rattle.sheet.specs.View.{markRows, keptPlaces};
 use crate::Sheet;
 use crate::kept_in;
 
 impl Sheet {
     // How many instruments.
     pub fn instruments(self) -> usize
-        ensures { λ r. ⌜ r ≡ instance (bookOf self) .m ⌝ }
+        ensures { λ r. ⌜ r ≡ bookOf self .m ⌝ }
     {
         self.m
     }
 
     // How many batches.
     pub fn batches(self) -> usize
-        ensures { λ r. ⌜ r ≡ n (instance (bookOf self)) ⌝ }
+        ensures { λ r. ⌜ r ≡ size (bookOf self) ⌝ }
     {
         self.n
+    }
+
+    // Each instrument's calibration in minutes, 0 for none; 0 past the last instrument.
+    pub fn calibrations(self) -> [u8; 24]
+        requires { ⌜ Sound self ⌝ }
+        ensures { λ r. ⌜ r ≡ padded 24 (bookOf self .calibrations) ⌝ }
+    {
+        self.calibrations
     }
 
     // Each batch's minutes; 0 past the last batch.
     pub fn minutes(self) -> [u16; 200]
         requires { ⌜ Sound self ⌝ }
-        ensures { λ r. ⌜ r ≡ padded 200 (map (λ (j : Job). j .minutes) (instance (bookOf self) .jobs)) ⌝ }
+        ensures { λ r. ⌜ r ≡ padded 200 (map (λ (b : Batch). b .minutes) (bookOf self .batches)) ⌝ }
     {
         self.minutes
     }
@@ -39,7 +46,7 @@ impl Sheet {
     // Each batch's place; 0 past the last batch.
     pub fn places(self) -> [u8; 200]
         requires { ⌜ Sound self ⌝ }
-        ensures { λ r. ⌜ r ≡ padded 200 (places (bookOf self)) ⌝ }
+        ensures { λ r. ⌜ r ≡ padded 200 (map (λ (b : Batch). b .place) (bookOf self .batches)) ⌝ }
     {
         self.places
     }
@@ -63,7 +70,7 @@ impl Sheet {
     // 1 at 24 (b - 1) + (i - 1) where instrument i may run batch b; 0 elsewhere.
     pub fn eligibility(self) -> [u8; 4800]
         requires { ⌜ Sound self ⌝ }
-        ensures { λ r. ⌜ r ≡ marks (instance (bookOf self)) ⌝ }
+        ensures { λ r. ⌜ r ≡ padded 4800 (markRows (bookOf self .batches)) ⌝ }
     {
         let n = self.n;
         let counts = self.counts;
@@ -80,7 +87,7 @@ impl Sheet {
     // Each batch on its place in x where its list has that, and on the first listed otherwise.
     pub fn with_places(mut self, x: [u8; 200]) -> Sheet
         requires { ⌜ Sound self ⌝ }
-        ensures { λ r. ⌜ (r ≡ sheetOf (withPlaces (bookOf self) (keptPlaces (instance (bookOf self)) x))) × Sound r ⌝ }
+        ensures { λ r. ⌜ (r ≡ sheetOf (withPlaces (bookOf self) (keptPlaces (bookOf self) x))) × Sound r ⌝ }
     {
         let n = self.n;
         let counts = self.counts;

@@ -78,14 +78,12 @@ pub fn wide(x: u8) -> u32
     x as u32
 }
 
-// Writes how many instruments a list has, the list, and a line's end.
-pub fn put_list(out: &mut [u8], at: usize, list: &[u8])
-    requires { ⌜ (at + (6 * (length (now list) + 1) + 1) ≤ length (now out)) × (length (now list) ≤ 24) ⌝ }
-    ensures { λ _. ⌜ now (out .exit)
-        ≡ paste (now (out .entry)) at (line (length (now (list .entry)) ∷ now (list .entry))) (6 * (length (now (list .entry)) + 1) + 1) ⌝ }
+// Writes a line of numbers, a field each.
+pub fn put_line(out: &mut [u8], at: usize, list: &[u8])
+    requires { ⌜ (at + (6 * length (now list) + 1) ≤ length (now out)) × (length (now list) ≤ 24) ⌝ }
+    ensures { λ _. ⌜ now (out .exit) ≡ paste (now (out .entry)) at (line (now (list .entry))) (6 * length (now (list .entry)) + 1) ⌝ }
 {
-    put_field(out, at, list.len() as u32);
-    let mut to = at + 6;
+    let mut to = at;
     let mut i: usize = 0;
     while i < list.len() {
         put_field(out, to, wide(list[i]));
@@ -93,6 +91,16 @@ pub fn put_list(out: &mut [u8], at: usize, list: &[u8])
         i += 1;
     }
     put_end(out, to);
+}
+
+// Writes how many instruments a list has, the list, and a line's end.
+pub fn put_list(out: &mut [u8], at: usize, list: &[u8])
+    requires { ⌜ (at + (6 * (length (now list) + 1) + 1) ≤ length (now out)) × (length (now list) ≤ 24) ⌝ }
+    ensures { λ _. ⌜ now (out .exit)
+        ≡ paste (now (out .entry)) at (line (length (now (list .entry)) ∷ now (list .entry))) (6 * (length (now (list .entry)) + 1) + 1) ⌝ }
+{
+    put_field(out, at, list.len() as u32);
+    put_line(out, at + 6, list);
 }
 
 // Writes a line of two fields at the front of `out`: line 1 of a sheet, or a refusal's number and its line.

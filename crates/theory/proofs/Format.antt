@@ -9,9 +9,9 @@ use lib.Seq.{drop-at}
 use lib.Dec.{leb, eqb}
 use borrow.Author.Tests.{leb-true, eqb-true, eqb-false, ne-eqb, not-true}
 use Rattle.rules.specs.Fold.{_and_, _or_, mem, every}
-use Rattle.rules.specs.Sheet.{Batch, maxBatches, goodInstruments, goodMinutes, isInstrument, distinct, goodList}
-use Rattle.rules.specs.Field.{Field, field}
-use Rattle.rules.specs.Read.{gives, fieldPart, numberAt, blankZero, placeAt, endOfLine, headLine, instrumentsAt, batchLine, accepted, batchLines, read}
+use Rattle.rules.specs.Sheet.{Batch, maxBatches, goodInstruments, goodMinutes, goodCalibration, goodCalibrations, isInstrument, distinct, goodList}
+use Rattle.rules.specs.Field.{Field}
+use Rattle.rules.specs.Read.{gives, fieldPart, numberAt, blankZero, placeAt, endOfLine, headLine, calibrationsAt, calibrationLine, instrumentsAt, batchLine, accepted, batchLines, linesAfter, read}
 use Rattle.rules.specs.Render.{columns, fields, line, Given, numbered, leftBlank, givenNumber, givenColumns, Described, Description, renderBatch, renderBatches, render, batchWithinLimits, withinLimits, placed, bookSaid}
 use Rattle.theory.proofs.Logic.{and-left, and-right, and-mk, not-mk, or-cases, or-none}
 use Rattle.theory.proofs.Member.{mem-append, every-mem}
@@ -140,20 +140,54 @@ batch-read m b r h e =
 
 -- ---- the batch lines
 
-pub batches-read : (m : ℕ) (ds : List Described) (bs : List Batch) (j : ℕ) → m ≤ 24 → every (batchWithinLimits m) ds ≡ true
-    → batchLines m (length ds) j bs (renderBatches ds) ≡ accepted (record { m = m; batches = bs ++ map placed ds })
+pub batches-read : (m : ℕ) (l : List ℕ) (ds : List Described) (bs : List Batch) (j : ℕ) → m ≤ 24 → every (batchWithinLimits m) ds ≡ true
+    → batchLines m l (length ds) j bs (renderBatches ds) ≡ accepted (record { m = m; calibrations = l; batches = bs ++ map placed ds })
 unfolding batchLines renderBatches every
-batches-read m [] bs j h e = ap (λ (u : List Batch). accepted (record { m = m; batches = u })) (sym (append-nil bs))
-batches-read m (d ∷ ds) bs j h e =
+batches-read m l [] bs j h e =
+    ap (λ (u : List Batch). accepted (record { m = m; calibrations = l; batches = u })) (sym (append-nil bs))
+batches-read m l (d ∷ ds) bs j h e =
     rw (batch-read m d (renderBatches ds) h (and-left _ _ e))
-    (batches-read m ds (bs ++ (placed d ∷ [])) (suc j) h (and-right (batchWithinLimits m d) _ e)
-    ∙ ap (λ (u : List Batch). accepted (record { m = m; batches = u })) (append-assoc bs (placed d ∷ []) (map placed ds)))
+    (batches-read m l ds (bs ++ (placed d ∷ [])) (suc j) h (and-right (batchWithinLimits m d) _ e)
+    ∙ ap (λ (u : List Batch). accepted (record { m = m; calibrations = l; batches = u })) (append-assoc bs (placed d ∷ []) (map placed ds)))
+
+-- ---- line 2: the calibrations
+
+-- the parts of the calibrations within the limits
+pub record GoodCalibrations (m : ℕ) (l : List ℕ) : Type 0 where
+  pub count : length l ≡ m
+  pub each : every goodCalibration l ≡ true
+
+pub good-calibrations-is : (m : ℕ) (l : List ℕ) → goodCalibrations m l ≡ true → GoodCalibrations m l
+unfolding goodCalibrations
+good-calibrations-is m l e =
+    record { count = eqb-true (length l) m (and-left _ _ e); each = and-right (eqb (length l) m) _ e }
+
+calibration-small : (t : ℕ) → goodCalibration t ≡ true → t < 10 ^ 6
+unfolding goodCalibration
+calibration-small t e = let u : t ≤ 240 = leb-true t 240 e in omega arith
+
+pub calibrations-read : (xs l r : List ℕ) → every goodCalibration xs ≡ true
+    → calibrationsAt (length xs) l (fields xs ++ r) ≡ gives (l ++ xs) r
+unfolding calibrationsAt every fields
+calibrations-read [] l r e = ap (λ (u : List ℕ). gives u r) (sym (append-nil l))
+calibrations-read (x ∷ xs) l r e =
+    let a : goodCalibration x ≡ true = and-left _ _ e in
+    rw (number-read x xs r (calibration-small x a), a)
+    (calibrations-read xs (l ++ (x ∷ [])) r (and-right (goodCalibration x) _ e)
+    ∙ ap (λ (u : List ℕ). gives u r) (append-assoc l (x ∷ []) xs))
+
+pub calibration-line-read : (m : ℕ) (l r : List ℕ) → goodCalibrations m l ≡ true → calibrationLine m (line l ++ r) ≡ gives l r
+unfolding calibrationLine endOfLine
+calibration-line-read m l r e =
+    let g = good-calibrations-is m l e in
+    rw (line-rest l r, ← g .count, calibrations-read l [] (10 ∷ r) (g .each))
 
 -- ---- the file
 
 -- the parts of a description within the limits
 pub record WithinLimits (d : Description) : Type 0 where
   pub instruments : goodInstruments (d .m) ≡ true
+  pub calibrations : goodCalibrations (d .m) (d .calibrations) ≡ true
   pub room : leb (length (d .batches)) maxBatches ≡ true
   pub batches : every (batchWithinLimits (d .m)) (d .batches) ≡ true
 
@@ -161,7 +195,13 @@ pub within-is : (d : Description) → withinLimits d ≡ true → WithinLimits d
 unfolding withinLimits
 within-is d e =
     let r = and-right (goodInstruments (d .m)) _ e in
-    record { instruments = and-left _ _ e; room = and-left _ _ r; batches = and-right (leb (length (d .batches)) maxBatches) _ r }
+    let s = and-right (goodCalibrations (d .m) (d .calibrations)) _ r in
+    record {
+      instruments = and-left _ _ e;
+      calibrations = and-left _ _ r;
+      room = and-left _ _ s;
+      batches = and-right (leb (length (d .batches)) maxBatches) _ s;
+    }
 
 few : (m : ℕ) → goodInstruments m ≡ true → m ≤ 24
 unfolding goodInstruments
@@ -182,8 +222,12 @@ head-read m n r e f =
     )
 
 pub read-render : (d : Description) → withinLimits d ≡ true → read (render d) ≡ accepted (bookSaid d)
-unfolding read render
+unfolding read linesAfter render
 read-render d e =
     let f = within-is d e in
-    rw (head-read (d .m) (length (d .batches)) (renderBatches (d .batches)) (f .instruments) (f .room))
-    (batches-read (d .m) (d .batches) [] 2 (few (d .m) (f .instruments)) (f .batches))
+    let b = renderBatches (d .batches) in
+    rw (
+      head-read (d .m) (length (d .batches)) (line (d .calibrations) ++ b) (f .instruments) (f .room),
+      calibration-line-read (d .m) (d .calibrations) b (f .calibrations),
+    )
+    (batches-read (d .m) (d .calibrations) (d .batches) [] 3 (few (d .m) (f .instruments)) (f .batches))

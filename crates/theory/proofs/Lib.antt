@@ -10,6 +10,7 @@ pub mod Marks
 pub mod Those
 pub mod Records
 pub mod Valid
+pub mod Items
 pub mod Load
 pub mod Step
 pub mod Heights
@@ -38,6 +39,8 @@ pub mod Fields
 pub mod Format
 pub mod Parse
 pub mod Sound
+pub mod Jobs
+pub mod Limits
 pub mod Rewrite
 pub mod Planning
 pub mod Runs

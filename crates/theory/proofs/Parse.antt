@@ -6,12 +6,12 @@ use mathlib.Core.List.{List, [], _∷_, _++_, map, append-nil, append-assoc}
 use native.Mathlib.Omega.{arith}
 use lib.ListN.{length, drop}
 use lib.Dec.{leb, eqb}
-use borrow.Author.Tests.{eqb-true, eqb-false, ne-eqb, not-true}
+use borrow.Author.Tests.{eqb-true, eqb-false, eq-eqb, ne-eqb, not-true}
 use Rattle.rules.specs.Fold.{_and_, _or_, mem, every}
 use Rattle.rules.specs.Refusal.{Refusal}
-use Rattle.rules.specs.Sheet.{Book, Batch, maxBatches, goodInstruments, goodMinutes, isInstrument, distinct, goodList}
+use Rattle.rules.specs.Sheet.{Book, Batch, maxBatches, goodInstruments, goodMinutes, goodCalibration, goodCalibrations, isInstrument, distinct, goodList}
 use Rattle.rules.specs.Field.{Field, value, blank, fault, field}
-use Rattle.rules.specs.Read.{Part, gives, refuses, andThen, orRefuse, fieldPart, numberAt, blankZero, placeAt, endOfLine, Head, headLine, instrumentsAt, batchLine, Reading, accepted, refusedAt, onLine, batchLines, read}
+use Rattle.rules.specs.Read.{Part, gives, refuses, andThen, orRefuse, fieldPart, numberAt, blankZero, placeAt, endOfLine, Head, headLine, calibrationsAt, calibrationLine, instrumentsAt, batchLine, Reading, accepted, refusedAt, onLine, batchLines, linesAfter, read}
 use Rattle.rules.specs.Render.{columns, fields, line, Given, numbered, leftBlank, givenNumber, givenColumns, Described, Description, renderBatch, renderBatches, render, batchWithinLimits, withinLimits, placed, bookSaid}
 use Rattle.theory.proofs.Logic.{and-left, and-right, and-mk, not-mk, or-none, or-skip}
 use Rattle.theory.proofs.Member.{mem-append}
@@ -184,40 +184,82 @@ batch-wrote m r b s e =
 
 -- ---- the batch lines
 
--- the descriptions that batch lines are written from, after the batches bs
-record Lines (m c : ℕ) (bs : List Batch) (r : List ℕ) (k : Book) : Type 0 where
+-- the descriptions that batch lines are written from, after the calibrations l and the batches bs
+record Lines (m : ℕ) (l : List ℕ) (c : ℕ) (bs : List Batch) (r : List ℕ) (k : Book) : Type 0 where
   ds : List Described
   count : length ds ≡ c
   fit : every (batchWithinLimits m) ds ≡ true
-  same : record { m = m; batches = bs ++ map placed ds } ≡ k
+  same : record { m = m; calibrations = l; batches = bs ++ map placed ds } ≡ k
   wrote : renderBatches ds ≡ r
 
-batches-wrote : (m c j : ℕ) (bs : List Batch) (r : List ℕ) (k : Book) → batchLines m c j bs r ≡ accepted k → Lines m c bs r k
+batches-wrote : (m : ℕ) (l : List ℕ) (c j : ℕ) (bs : List Batch) (r : List ℕ) (k : Book) → batchLines m l c j bs r ≡ accepted k
+    → Lines m l c bs r k
 unfolding batchLines renderBatches every
-batches-wrote m zero j bs [] k e =
-    let q : record { m = m; batches = bs } ≡ k = cc in
+batches-wrote m l zero j bs [] k e =
+    let q : record { m = m; calibrations = l; batches = bs } ≡ k = cc in
     record {
       ds = [];
       count = refl;
       fit = refl;
-      same = ap (λ (u : List Batch). record { m = m; batches = u }) (append-nil bs) ∙ q;
+      same = ap (λ (u : List Batch). record { m = m; calibrations = l; batches = u }) (append-nil bs) ∙ q;
       wrote = refl;
     }
-batches-wrote m zero j bs (x ∷ r) k e = no-reading e
-batches-wrote m (suc c) j bs r k e =
+batches-wrote m l zero j bs (x ∷ r) k e = no-reading e
+batches-wrote m l (suc c) j bs r k e =
     line-accepted j (batchLine m r) _ e (λ b r₁ e₁ h₁.
     let x = batch-wrote m r b r₁ e₁ in
-    let t = batches-wrote m c (suc j) (bs ++ (b ∷ [])) r₁ k h₁ in
+    let t = batches-wrote m l c (suc j) (bs ++ (b ∷ [])) r₁ k h₁ in
     record {
       ds = x .d ∷ t .ds;
       count = ap suc (t .count);
       fit = and-mk _ _ (x .fit) (t .fit);
       same =
-          ap (λ (u : List Batch). record { m = m; batches = u })
+          ap (λ (u : List Batch). record { m = m; calibrations = l; batches = u })
           (ap (λ (h : Batch). bs ++ (h ∷ map placed (t .ds))) (x .same) ∙ sym (append-assoc bs (b ∷ []) (map placed (t .ds))))
           ∙ t .same;
       wrote = ap (λ (u : List ℕ). renderBatch (x .d) ++ u) (t .wrote) ∙ x .wrote;
     })
+
+-- ---- line 2: the calibrations
+
+-- the calibrations read, after those of l
+record Calibrated (c : ℕ) (l r k s : List ℕ) : Type 0 where
+  xs : List ℕ
+  count : length xs ≡ c
+  all : l ++ xs ≡ k
+  wrote : fields xs ++ s ≡ r
+  fit : every goodCalibration xs ≡ true
+
+calibrations-wrote : (c : ℕ) (l r k s : List ℕ) → calibrationsAt c l r ≡ gives k s → Calibrated c l r k s
+unfolding calibrationsAt fields every
+calibrations-wrote zero l r k s e =
+    gave e (λ p q. record { xs = []; count = refl; all = append-nil l ∙ p; wrote = sym q; fit = refl })
+calibrations-wrote (suc c) l r k s e =
+    then-gives (numberAt r) _ e (λ v r₁ e₁ h₁.
+    or-gives (goodCalibration v) _ _ h₁ (λ o h₂.
+    let t = calibrations-wrote c (l ++ (v ∷ [])) r₁ k s h₂ in
+    record {
+      xs = v ∷ t .xs;
+      count = ap suc (t .count);
+      all = sym (append-assoc l (v ∷ []) (t .xs)) ∙ t .all;
+      wrote = number-wrote r v r₁ (t .xs) s e₁ (t .wrote);
+      fit = and-mk _ _ o (t .fit);
+    }))
+
+calibration-line-wrote : (m : ℕ) (r l s : List ℕ) → calibrationLine m r ≡ gives l s
+    → (goodCalibrations m l ≡ true) × (line l ++ s ≡ r)
+unfolding calibrationLine goodCalibrations
+calibration-line-wrote m r l s e =
+    then-gives (calibrationsAt m [] r) _ e (λ k r₁ e₁ h₁.
+    end-gives r₁ _ h₁ (λ r₂ e₂ h₂.
+    gave h₂ (λ p z.
+    let x = calibrations-wrote m [] r k r₁ e₁ in
+    let q : x .xs ≡ l = x .all ∙ p in
+    let w : 10 ∷ s ≡ r₁ = ap (λ (u : List ℕ). 10 ∷ u) (sym z) ∙ sym e₂ in
+    subst (λ (i : List ℕ). (goodCalibrations m i ≡ true) × (line i ++ s ≡ r)) q (
+      and-mk _ _ (eq-eqb _ _ (x .count)) (x .fit),
+      line-rest (x .xs) s ∙ ap (λ (u : List ℕ). fields (x .xs) ++ u) w ∙ x .wrote,
+    ))))
 
 -- ---- the file
 
@@ -248,13 +290,17 @@ head-wrote r h s e =
 
 pub read-is-render : (s : List ℕ) (k : Book) → read s ≡ accepted k
     → (d : Description) × (withinLimits d ≡ true) × (bookSaid d ≡ k) × (render d ≡ s)
-unfolding read withinLimits render
+unfolding read linesAfter withinLimits render
 read-is-render s k e =
     line-accepted 1 (headLine s) _ e (λ h r e₁ h₁.
+    line-accepted 2 (calibrationLine (h .m) r) _ h₁ (λ l r₁ e₂ h₂.
     let g = head-wrote s h r e₁ in
-    let t = batches-wrote (h .m) (h .n) 2 [] r k h₁ in (
-      record { m = h .m; batches = t .ds },
-      and-mk _ _ (g .instruments) (and-mk _ _ (subst (λ (c : ℕ). leb c maxBatches ≡ true) (sym (t .count)) (g .room)) (t .fit)),
+    let c = calibration-line-wrote (h .m) r l r₁ e₂ in
+    let t = batches-wrote (h .m) l (h .n) 3 [] r₁ k h₂ in
+    let n : leb (length (t .ds)) maxBatches ≡ true = subst (λ (i : ℕ). leb i maxBatches ≡ true) (sym (t .count)) (g .room) in (
+      record { m = h .m; calibrations = l; batches = t .ds },
+      and-mk _ _ (g .instruments) (and-mk _ _ (c .0) (and-mk _ _ n (t .fit))),
       t .same,
-      ap₂ (λ (c : ℕ) (u : List ℕ). line (h .m ∷ c ∷ []) ++ u) (t .count) (t .wrote) ∙ g .wrote,
-    ))
+      ap₂ (λ (i : ℕ) (u : List ℕ). line (h .m ∷ i ∷ []) ++ u) (t .count) (ap (λ (u : List ℕ). line l ++ u) (t .wrote) ∙ c .1)
+          ∙ g .wrote,
+    )))

@@ -6,6 +6,7 @@ use mathlib.Core.Logic.{_≢_}
 use mathlib.Core.List.{List, [], _∷_, _++_, map, map-append, append-nil}
 use native.Mathlib.Nat.{le-refl}
 use native.Mathlib.Omega.{arith}
+use native.Mathlib.Decide.{decLe}
 use lib.Dec.{eqb}
 use lib.ListN.{length, length-append}
 use lib.Seq.{ext-getD}
@@ -104,8 +105,11 @@ leads (suc c) x y h =
       past = λ b p. at-put-other made (suc c) b (at y (suc c)) (λ z. absurd (omega arith)) ∙ w .past b (omega arith);
     }))
 
-pub records-lead : (c : ℕ) (x y : Assignment) → length x ≡ c → length y ≡ c → follow (records c x y) x ≡ y
-records-lead c x y e f =
-    let w = leads c x y (omega arith) in
+-- where they differ in none past c
+pub records-lead : (c : ℕ) (x y : Assignment) → c ≤ length x → length y ≡ length x → ((b : ℕ) → c < b → at x b ≡ at y b)
+    → follow (records c x y) x ≡ y
+records-lead c x y h e f =
+    let w = leads c x y h in
     let l = follow-length (records c x y) x in
-    ext-getD 0 (follow (records c x y) x) y (omega arith) (λ i h. w .upto (suc i) (omega arith) (omega arith))
+    ext-getD 0 (follow (records c x y) x) y (omega arith)
+    (λ i u. elim (decLe (suc i) c) [ yes q ↦ w .upto (suc i) (omega arith) q | no ne ↦ w .past (suc i) (omega arith) ∙ f (suc i) (omega arith) ])

@@ -16,7 +16,7 @@ use Rattle.rules.specs.Rewrite.{written, isOpen, unmarked, openInBatch, openInB
 use Rattle.theory.proofs.Logic.{conflict, not-mk, and-left, and-right, and-mk, or-right}
 use Rattle.theory.proofs.Field.{columns-length}
 use Rattle.theory.proofs.Fields.{line-length}
-use Rattle.theory.proofs.Format.{batch-within-is, good-list-is, within-is, read-render}
+use Rattle.theory.proofs.Format.{batch-within-is, good-list-is, good-calibrations-is, within-is, read-render}
 use Rattle.theory.proofs.Parse.{read-is-render}
 use Rattle.theory.proofs.Sound.{good-is, sound-is, good-ranged}
 
@@ -57,14 +57,15 @@ described-within k e =
     let s = sound-is k e in
     let r : leb (length (map describedBatch (k .batches))) maxBatches ≡ true =
     le-leb (length (map describedBatch (k .batches))) maxBatches (omega (arith, length-map (k .batches) describedBatch, s .room)) in
-    and-mk _ _ (s .instruments) (and-mk _ _ r (batches-within (k .m) (k .batches) (s .batches)))
+    and-mk _ _ (s .instruments) (and-mk _ _ (s .calibrations) (and-mk _ _ r (batches-within (k .m) (k .batches) (s .batches))))
 
 -- reading what is written gives the very same book
 pub read-written : (k : Book) → sound k ≡ true → read (written k) ≡ accepted k
 unfolding written
 read-written k e =
     read-render (described k) (described-within k e)
-    ∙ ap (λ (bs : List Batch). accepted (record { m = k .m; batches = bs })) (batches-same (k .m) (k .batches) (sound-is k e .batches))
+    ∙ ap (λ (bs : List Batch). accepted (record { m = k .m; calibrations = k .calibrations; batches = bs }))
+    (batches-same (k .m) (k .batches) (sound-is k e .batches))
 
 -- and no place in it is 0 or blank
 batches-given : (m : ℕ) (bs : List Batch) → every (goodBatch m) bs ≡ true
@@ -144,11 +145,14 @@ file-alike : (d : Description) → alike (openColumns d) (render d) (written (bo
 unfolding openColumns render written
 file-alike d =
     let l = line (d .m ∷ length (d .batches) ∷ []) in
+    let c = line (d .calibrations) in
+    let b = renderBatches (d .batches) in
+    let w = renderBatches (map describedBatch (map placed (d .batches))) in
     let n : length (map describedBatch (map placed (d .batches))) ≡ length (d .batches) =
     length-map (map placed (d .batches)) describedBatch ∙ length-map (d .batches) placed in
     rw n
-    (alike-append (unmarked l) l l (openInBatches (d .batches)) (renderBatches (d .batches))
-    (renderBatches (map describedBatch (map placed (d .batches)))) (alike-same (length l) l refl) (batches-alike (d .batches)))
+    (alike-append (unmarked l) l l (unmarked c ++ openInBatches (d .batches)) (c ++ b) (c ++ w) (alike-same (length l) l refl)
+    (alike-append (unmarked c) c c (openInBatches (d .batches)) b w (alike-same (length c) c refl) (batches-alike (d .batches))))
 
 -- What the file s says, read as k. And whatever description s is the file of: the file written from k is s but for the places that it
 -- gives as 0 or blank.
@@ -209,25 +213,29 @@ batches-few m (b ∷ bs) h e =
       batches-few m bs h (and-right (batchWithinLimits m b) _ e),
     )
 
--- line 1 has 13 bytes, and a batch line at most 163
-file-few : (d : Description) → withinLimits d ≡ true → length (render d) ≤ 32613
+-- line 1 has 13 bytes, line 2 at most 145, and a batch line at most 163
+file-few : (d : Description) → withinLimits d ≡ true → length (render d) ≤ 32758
 unfolding render goodInstruments
 file-few d e =
     let w = within-is d e in
     let l = line (d .m ∷ length (d .batches) ∷ []) in
+    let c = line (d .calibrations) in
     let m : d .m ≤ 24 = leb-true _ _ (and-right (leb 1 (d .m)) _ (w .instruments)) in
     let n : length (d .batches) ≤ 200 = leb-true _ _ (w .room) in
     omega (
       arith,
-      length-append l (renderBatches (d .batches)),
+      length-append l (c ++ renderBatches (d .batches)),
       line-length (d .m ∷ length (d .batches) ∷ []),
+      length-append c (renderBatches (d .batches)),
+      line-length (d .calibrations),
+      good-calibrations-is (d .m) (d .calibrations) (w .calibrations) .count,
       batches-few (d .m) (d .batches) m (w .batches),
     )
 
 -- no file that is accepted is longer, and none that is written
-pub most-bytes : (s : List ℕ) (k : Book) → read s ≡ accepted k → length s ≤ 32613
+pub most-bytes : (s : List ℕ) (k : Book) → read s ≡ accepted k → length s ≤ 32758
 most-bytes s k e = let w = rewritten s k e in omega (arith, ap length (w .file), file-few (w .says) (w .within))
 
-pub most-written : (k : Book) → sound k ≡ true → length (written k) ≤ 32613
+pub most-written : (k : Book) → sound k ≡ true → length (written k) ≤ 32758
 unfolding written
 most-written k e = file-few (described k) (described-within k e)

@@ -1,23 +1,23 @@
 -- Lists of calls on the book (document 01, "Runs"): the book stays sound along every list, and each trial, each balance and each settle
 -- in it keeps what the documents claim of it.
-use Prim.Native.Nat.{ℕ, _+_, _*_, _≤_, _<_}
-use mathlib.Core.Path.{_≡_, refl, sym, ap, ap₂, _∙_}
+use Prim.Native.Nat.{ℕ, zero, suc, _+_, _*_, _≤_, _<_}
+use mathlib.Core.Path.{_≡_, refl, sym, ap, ap₂, _∙_, subst}
 use mathlib.Core.Bool.{Bool, true, false}
-use mathlib.Core.List.{List, [], _∷_}
+use mathlib.Core.List.{List, [], _∷_, _++_}
 use native.Mathlib.Nat.{le-trans}
 use native.Mathlib.Omega.{arith}
-use lib.ListN.{length, length-map}
+use lib.ListN.{length, getD, take, drop, take-append-drop}
 use borrow.Author.Tests.{le-leb, lt-leb}
-use Rattle.rules.specs.Fold.{pick}
+use Rattle.rules.specs.Fold.{pick, mem}
 use Rattle.rules.specs.Refusal.{bufferShort}
-use Rattle.rules.specs.Sheet.{Book, size, sound}
+use Rattle.rules.specs.Sheet.{Book, size, noBatchHere, sound}
 use Rattle.rules.specs.Read.{read, accepted}
 use Rattle.rules.specs.Rewrite.{written}
 use Rattle.rules.specs.Edit.{Edit, Edited, refused, edited, edit}
-use Rattle.rules.specs.Instance.{Instance, Assignment, instance, places, n}
+use Rattle.rules.specs.Instance.{Instance, Assignment, busy, instance, places, n}
 use Rattle.rules.specs.Load.{longest, makespan, equilibrium, review}
 use Rattle.rules.specs.Trial.{atLevel, ended, liftBound, pushBound}
-use Rattle.rules.specs.Group.{trial}
+use Rattle.rules.specs.Group.{Tried, passed, failed, trial}
 use Rattle.rules.specs.Settle.{squares}
 use Rattle.rules.specs.LowerBound.{witnessed}
 use Rattle.rules.specs.Round.{multiples, equalLengths, closeTo}
@@ -27,26 +27,29 @@ use Rattle.rules.specs.Run.{Call, editing, reviewing, trying, balancing, settli
 use Rattle.rules.specs.Run as R
 use Rattle.rules.specs.Listing.{planBook}
 use Rattle.theory.proofs.Valid.{Valid, Permitted}
-use Rattle.theory.proofs.Sound.{read-sound, edit-sound, sound-valid, sound-permitted, placed-sound, placed-places, placed-instance, placed-again, jobs-count}
+use Rattle.theory.proofs.Sound.{read-sound, edit-sound}
+use Rattle.theory.proofs.Jobs.{sound-valid, sound-permitted, placed-sound, placed-places, placed-instance, placed-again, placed-size, places-past, batches-first, busy-some, some-busy, improves-batch, batch-listed, homes, calibrations-stay, homes-permitted}
 use Rattle.theory.proofs.Records.{records-lead}
 use Rattle.theory.proofs.Rewrite.{read-written, most-written}
-use Rattle.theory.proofs.Review.{Improves, review-settled, settled-review, settled-none, none-settled}
+use Rattle.theory.proofs.Review.{Improves, review-settled, settled-review, settled-none, none-settled, review-first}
 use Rattle.theory.proofs.Heights.{permitted-partial}
 use Rattle.theory.proofs.Ending.{trial-lifts, trial-pushes}
-use Rattle.theory.proofs.Trial.{Outcome, outcome}
+use Rattle.theory.proofs.Trial.{Outcome, passes, fails, outcome, trial-permitted}
 use Rattle.theory.proofs.Balancing.{Counts}
 use Rattle.theory.proofs.Round.{close-mk, close-le, multiples-one, multiples-equal}
 use Rattle.theory.proofs.Planning.{rested-permitted, rested-settled, rested-makespan, rested-no-later, rested-moves, balanced-permitted, balanced-makespan, balanced-no-later, balanced-counts, balanced-close, balanced-bound-below, balanced-near-bound, balanced-witness}
 
 -- ---- what is claimed on a book
 
--- of every trial, whatever its level, whether balance makes it or the host asks for it
+-- Of every trial, whatever its level, whether balance makes it or the host asks for it. The places that a passed one shows, those of the
+-- batches, make its assignment with the calibrations where they stand.
 pub record Trials (k : Book) : Type 0 where
   pub lifts : (a : ℕ) → ended (instance k) (places k) a .lifts ≤ liftBound (instance k)
   pub pushes : (a : ℕ) → ended (instance k) (places k) a .pushes ≤ pushBound (instance k)
   pub valid : Valid (instance k)
   pub permitted : Permitted (instance k) (places k)
   pub outcomes : (a : ℕ) → Outcome (instance k) (places k) valid permitted a (trial (instance k) (places k) a)
+  pub shows : (a : ℕ) (x : Assignment) (r b : ℕ) → trial (instance k) (places k) a ≡ passed x r b → take (size k) x ++ homes k ≡ x
 
 -- Of a call with a list lent for its records that leaves the assignment x. With an entry for each batch it answers its figures, with the
 -- records that lead from the book's places to x; the book after it has the places of x, and differs in nothing else that plans look at.
@@ -76,8 +79,19 @@ pub record Settles (k : Book) : Type 0 where
   pub settled : equilibrium (instance k) (settleBook k .assignment) ≡ true
   pub moves : 2 * settleBook k .moves ≤ squares (instance k) (places k)
 
--- On a book with a batch, of a finish after balance: for each g of which all lengths are multiples, at most longest − g above any
--- permitted plan; and at most longest − 1 above the lower bound, which no permitted plan is below, and which has its witness.
+-- Of permitted assignments: they are the plans of the batches, each with the calibrations where they stand.
+pub record Calibrates (k : Book) : Type 0 where
+  pub every : (x : Assignment) → length x ≡ size k
+      → ((b : ℕ) → b < size k → mem (getD x b 0) (getD (k .batches) b noBatchHere .list) ≡ true) → Permitted (instance k) (x ++ homes k)
+  pub listed : (y : Assignment) → Permitted (instance k) y
+      → (b : ℕ) → b < size k → mem (getD y b 0) (getD (k .batches) b noBatchHere .list) ≡ true
+  pub only : (y : Assignment) → Permitted (instance k) y → drop (size k) y ≡ homes k
+  -- there is a job just where the book is busy
+  pub some : 0 < n (instance k) → busy k ≡ true
+
+-- On a book with a batch, or a calibration above 0, of a finish after balance: for each g of which all lengths are multiples, those of
+-- calibrations too, at most longest − g above any permitted plan, which has each calibration on its instrument; and at most longest − 1
+-- above the lower bound, which no permitted plan is below, and which has its witness.
 pub record Bounds (k : Book) (finish : ℕ) : Type 0 where
   pub close : (g : ℕ) → multiples (instance k) g ≡ true → (y : Assignment) → Permitted (instance k) y
       → closeTo (instance k) g finish (makespan (instance k) y) ≡ true
@@ -100,27 +114,29 @@ pub record Plans (k : Book) : Type 0 where
   pub noLater : planBook k .makespan ≤ makespan (instance k) (places k)
   pub permitted : Permitted (instance k) (planBook k .assignment)
   pub settled : equilibrium (instance k) (planBook k .assignment) ≡ true
-  pub bounds : 0 < n (instance k) → Bounds k (planBook k .makespan)
+  pub bounds : busy k ≡ true → Bounds k (planBook k .makespan)
   pub makespan : planBook k .makespan ≡ makespan (instance k) (planBook k .assignment)
 
--- of review: settled is answered exactly when no batch improves
+-- of review: settled is answered exactly when no batch improves, and what improves is a batch and no calibration
 pub record Reviews (k : Book) : Type 0 where
   pub settled : review (instance k) (places k) .improving ≡ 0 → (b : ℕ) → 0 < b → b ≤ n (instance k) → Improves (instance k) (places k) b → ⊥
   pub unsettled : ((b : ℕ) → 0 < b → b ≤ n (instance k) → Improves (instance k) (places k) b → ⊥)
       → review (instance k) (places k) .improving ≡ 0
+  pub batch : review (instance k) (places k) .improving ≤ size k
 
--- of the file written from it: it is read as the very same book, and has at most 32,613 bytes
+-- of the file written from it: it is read as the very same book, and has at most 32,758 bytes
 pub record Files (k : Book) : Type 0 where
   pub same : read (written k) ≡ accepted k
-  pub few : length (written k) ≤ 32613
+  pub few : length (written k) ≤ 32758
 
 pub record Claims (k : Book) : Type 0 where
   pub sound : sound k ≡ true
   pub files : Files k
   pub reviews : Reviews k
+  pub calibrates : Calibrates k
   pub trials : Trials k
   pub balances : Balances k
-  pub bounds : 0 < n (instance k) → Bounds k (balanceBook k .makespan)
+  pub bounds : busy k ≡ true → Bounds k (balanceBook k .makespan)
   pub settles : Settles k
   pub plans : Plans k
 
@@ -132,33 +148,37 @@ roomy-yes k c h = le-leb (size k) c h
 roomy-no : (k : Book) (c : ℕ) → c < size k → roomy k c ≡ false
 roomy-no k c h = lt-leb (size k) c h
 
-places-length : (k : Book) → length (places k) ≡ size k
-places-length k = length-map (k .batches) _
-
 module _ (k : Book) (x : Assignment) (w : Permitted (instance k) x) where
   placed-at : places (withPlaces k x) ≡ x
-  placed-at = placed-places k x (w .size ∙ jobs-count k)
+  placed-at = placed-places k x w
 
   picked-instance : (t : Bool) → instance (pick t (withPlaces k x) k) ≡ instance k
   picked-instance true = placed-instance k x
   picked-instance false = refl
 
-balance-lends : (k : Book) → Permitted (instance k) (balanceBook k .assignment) → Lends k balancing (balanced (balanceBook k)) (balanceBook k .assignment)
+  -- the records are of the batches alone, since calibrations stay
+  batches-lead : Permitted (instance k) (places k) → follow (recordsTo k x) (places k) ≡ x
+  batches-lead v =
+      records-lead (size k) (places k) x (omega (arith, v .size, batches-first k)) (w .size ∙ sym (v .size)) (places-past k (places k) x v w)
+
+balance-lends : (k : Book) → Permitted (instance k) (places k) → Permitted (instance k) (balanceBook k .assignment)
+    → Lends k balancing (balanced (balanceBook k)) (balanceBook k .assignment)
 unfolding answer next
-balance-lends k w = record {
+balance-lends k v w = record {
   answers = λ c h. rw (roomy-yes k c h);
-  leads = records-lead (size k) (places k) _ (places-length k) (w .size ∙ jobs-count k);
+  leads = batches-lead k _ w v;
   entered = λ c h. rw (roomy-yes k c h) (placed-at k _ w);
   same = λ c. picked-instance k _ w (roomy k c);
   short = λ c h. rw (roomy-no k c h);
   stays = λ c h. rw (roomy-no k c h);
 }
 
-settle-lends : (k : Book) → Permitted (instance k) (settleBook k .assignment) → Lends k settling (settled (settleBook k)) (settleBook k .assignment)
+settle-lends : (k : Book) → Permitted (instance k) (places k) → Permitted (instance k) (settleBook k .assignment)
+    → Lends k settling (settled (settleBook k)) (settleBook k .assignment)
 unfolding answer next
-settle-lends k w = record {
+settle-lends k v w = record {
   answers = λ c h. rw (roomy-yes k c h);
-  leads = records-lead (size k) (places k) _ (places-length k) (w .size ∙ jobs-count k);
+  leads = batches-lead k _ w v;
   entered = λ c h. rw (roomy-yes k c h) (placed-at k _ w);
   same = λ c. picked-instance k _ w (roomy k c);
   short = λ c h. rw (roomy-no k c h);
@@ -228,8 +248,7 @@ module _ (k : Book) (e : sound k ≡ true) where
 
   enough : (d : ℕ) → size k ≤ d → roomy (withPlaces k x) d ≡ true
   enough d h =
-      let m : size (withPlaces k x) ≡ size k = sym (jobs-count (withPlaces k x)) ∙ ap n (placed-instance k x) ∙ jobs-count k in
-      roomy-yes (withPlaces k x) d (omega arith)
+      roomy-yes (withPlaces k x) d (omega (arith, placed-size k x))
 
   after-said : (d : ℕ) → size k ≤ d
       → answer (withPlaces k x) (settling d) ≡ settled (rested I x) (recordsTo (withPlaces k x) (rested I x .assignment))
@@ -239,9 +258,9 @@ module _ (k : Book) (e : sound k ≡ true) where
   after-both : (d : ℕ) → size k ≤ d → next (withPlaces k x) (settling d) ≡ withPlaces k (rested I x .assignment)
   unfolding next
   after-both d h =
-      rw (enough d h, settle-placed k x w) (placed-again k x (rested I x .assignment) (rested-permitted v w .size ∙ jobs-count k))
+      rw (enough d h, settle-placed k x w) (placed-again k x (rested I x .assignment) (omega (arith, rested-permitted v w .size, batches-first k)))
 
-  planned : ((some : 0 < n I) → Bounds k (balanceBook k .makespan)) → Plans k
+  planned : ((some : busy k ≡ true) → Bounds k (balanceBook k .makespan)) → Plans k
   unfolding plan
   planned bounds = record {
     said = λ c d h g. rw (after c h) (after-said d g);
@@ -258,13 +277,28 @@ module _ (k : Book) (e : sound k ≡ true) where
     bounds = λ some. bounds-earlier (rw (balanced-makespan I (places k) v (sound-permitted k e)) (rested-no-later v w)) (bounds some);
   }
 
+improving-batch : (k : Book) → Permitted (instance k) (places k) → (r : ℕ) → review (instance k) (places k) .improving ≡ r → r ≤ size k
+improving-batch k w zero e = omega arith
+improving-batch k w (suc b) e = improves-batch k (places k) w (suc b) (review-first (instance k) (places k) b e .1)
+
+-- the places of a passed trial
+trial-shows : (k : Book) (v : Valid (instance k)) (w : Permitted (instance k) (places k)) (a : ℕ) {t : Tried} {x : Assignment} {r b : ℕ}
+    → Outcome (instance k) (places k) v w a t → t ≡ passed x r b → take (size k) x ++ homes k ≡ x
+trial-shows k v w a {x = x} (passes p) q =
+    let e : ended (instance k) (places k) a .assignment ≡ x = cc in
+    let y = ended (instance k) (places k) a .assignment in
+    let h = trial-permitted (instance k) (places k) v w (atLevel (instance k) a) in
+    subst (λ (z : Assignment). take (size k) z ++ homes k ≡ z) e
+    (ap (λ (z : Assignment). take (size k) y ++ z) (sym (calibrations-stay k y h)) ∙ take-append-drop (size k) y)
+trial-shows k v w a (fails g f) q = absurd (let z : _≡_ {A = ℕ} 0 1 = cc in omega arith)
+
 pub sound-claims : (k : Book) → sound k ≡ true → Claims k
 sound-claims k e =
     let I = instance k in
     let x = places k in
     let v = sound-valid k e in
     let w = sound-permitted k e in
-    let bounds : (0 < n I) → Bounds k (balanceBook k .makespan) = λ some. record {
+    let bounds : busy k ≡ true → Bounds k (balanceBook k .makespan) = λ t. let some = busy-some k t in record {
       close = balanced-close I x v w some;
       below = balanced-bound-below I x v w some;
       near = balanced-near-bound I x v w some;
@@ -276,20 +310,23 @@ sound-claims k e =
       reviews = record {
         settled = λ z. settled-none I x (review-settled I x z);
         unsettled = λ h. settled-review I x (none-settled I x h);
+        batch = improving-batch k w (review I x .improving) refl;
       };
+      calibrates = record { every = λ y l h. homes-permitted k y e l h; listed = batch-listed k; only = calibrations-stay k; some = some-busy k };
       trials = record {
         lifts = λ a. trial-lifts I x (permitted-partial w) (atLevel I a);
         pushes = λ a. trial-pushes I x (permitted-partial w) (atLevel I a);
         valid = v;
         permitted = w;
         outcomes = λ a. outcome I x v w a;
+        shows = λ a y r b q. trial-shows k v w a (outcome I x v w a) q;
       };
       balances = record {
         noLater = balanced-no-later I x v w;
         permitted = balance-permitted k e;
         makespan = balanced-makespan I x v w;
         counts = balanced-counts I x v w;
-        lends = balance-lends k (balance-permitted k e);
+        lends = balance-lends k w (balance-permitted k e);
       };
       bounds = bounds;
       settles = record {
@@ -298,7 +335,7 @@ sound-claims k e =
         makespan = rested-makespan v w;
         settled = rested-settled v w;
         moves = rested-moves v w;
-        lends = settle-lends k (settle-permitted k e);
+        lends = settle-lends k w (settle-permitted k e);
       };
       plans = planned k e bounds;
     }

@@ -96,7 +96,7 @@ module _ {I : Instance} {a : Limits} {c : ℕ} {lengths sets : List ℕ} {t : St
           left-enough I (s .assignment) (t .loads) (suc b) (shape .jobs) (omega arith) in-all in-bank (v .tracks .beside .loads) w weight (suc i) on-it
           (omega arith) (acting .within)
 
-      pub job-off : length (t .places) ≡ 200 → Stepped I a sets t (takenOff t b i w)
+      pub job-off : length (t .places) ≡ 224 → Stepped I a sets t (takenOff t b i w)
       job-off wide = record {
         is = (rw (take-put (n I) (t .places) (suc b) 0 in-all, add-one (t .pushes))) ∙ sym (ap (after s) act-push);
         rests = v .tracks .acting ∙ sym (ap idle act-push);

@@ -55,18 +55,18 @@ at-end {I} {a} {c = c} {places = places} w g e = record {
 -- ---- how many steps are left at the most; none where the state rests
 
 abbrev pub left : State → ℕ
-left t = pick (t .resting) 0 (491177 - (t .lifts + t .pushes))
+left t = pick (t .resting) 0 (549977 - (t .lifts + t .pushes))
 
 acting-of : (y : T.Act) → idle y ≡ false → Acting y
 acting-of T.rest e = conflict refl e
 acting-of (T.byJob b d) e = tt
 acting-of (T.byMachine i d) e = tt
 
-pub nearer : {I : Instance} {a : Limits} {sets : List ℕ} (t u : State) → t .resting ≡ false → t .lifts + t .pushes ≤ 491176 → Stepped I a sets t u
+pub nearer : {I : Instance} {a : Limits} {sets : List ℕ} (t u : State) → t .resting ≡ false → t .lifts + t .pushes ≤ 549976 → Stepped I a sets t u
     → left u < left t
 nearer {I} {a} t u e h k = rw e (from (u .resting) refl)
   where
-    from : (b : Bool) → u .resting ≡ b → pick b 0 (491177 - (u .lifts + u .pushes)) < 491177 - (t .lifts + t .pushes)
+    from : (b : Bool) → u .resting ≡ b → pick b 0 (549977 - (u .lifts + u .pushes)) < 549977 - (t .lifts + t .pushes)
     from true q = omega arith
     from false q =
         let s = stateOf I t in
@@ -79,7 +79,7 @@ nearer {I} {a} t u e h k = rw e (from (u .resting) refl)
 abbrev pub fresh : List ℕ → List ℕ → ℕ → State
 fresh places loads waiting = record {
   machines = replicate 24 0;
-  jobs = replicate 200 0;
+  jobs = replicate 224 0;
   places = places;
   loads = loads;
   lifts = 0;
@@ -100,7 +100,7 @@ module _ {I : Instance} {a : Limits} {m c : ℕ} {lengths sets lows highs places
       let r = w .setup .reads in
       rw (
         take-zeros (I .m) 24 (omega (arith, r .machines, r .few)),
-        take-zeros (n I) 200 (omega (arith, r .jobs, r .most)),
+        take-zeros (n I) 224 (omega (arith, r .jobs, r .most)),
         r .jobs,
       )
 

@@ -12,11 +12,11 @@ use Rattle.trials.specs.Track.{stateOf}
 use Rattle.arrays.proofs.Take.{at-take}
 
 module _ {I : Instance} {m c : ℕ} {lengths sets : List ℕ} (r : Reads I m c lengths sets) where
-  pub loads-small : (x : Assignment) (loads : List ℕ) → Kept I x loads → (i : ℕ) → 0 < i → i ≤ m → at loads i ≤ 288000
+  pub loads-small : (x : Assignment) (loads : List ℕ) → Kept I x loads → (i : ℕ) → 0 < i → i ≤ m → at loads i ≤ 322560
   loads-small x loads k i p q = let l : i ≤ I .m = omega (arith, r .machines) in omega (arith, k i p l, load-small (r .small) x i)
 
   module _ (t : State) (k : Counted I (stateOf I t)) where
-    pub few-steps : t .lifts + t .pushes ≤ 491176
+    pub few-steps : t .lifts + t .pushes ≤ 549976
     few-steps = omega (arith, made-bound I (stateOf I t) k, lifts-small (r .small), pushes-small (r .small))
 
     pub machine-low : (i : ℕ) → i ≤ m → at (t .machines) i ≤ 50

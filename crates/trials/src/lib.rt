@@ -37,7 +37,7 @@ impl State {
 
     // Job `b`, by index, is lifted to height `h`.
     fn lift_job(mut self, b: usize, h: u8) -> State
-        requires { ⌜ (b < 200) × (self .lifts + 1 < 2 ^ 32) ⌝ }
+        requires { ⌜ (b < 224) × (self .lifts + 1 < 2 ^ 32) ⌝ }
         ensures { λ r. ⌜ r ≡ jobLifted self b h ⌝ }
     {
         self.jobs[b] = h;
@@ -58,7 +58,7 @@ impl State {
     // Job `b`, of `n`, the lowest that waits, which takes `w` minutes, is put on machine `i`: both by index. The next one that waits
     // stands after it.
     fn place(mut self, b: usize, i: usize, w: u32, masks: &[u32], n: usize) -> State
-        requires { ⌜ (b < n) × (i < 24) × (n ≤ 200) × (n ≤ length (now masks)) × (getD (self .loads) i 0 + w < 2 ^ 32) × (self .pushes + 1 < 2 ^ 32) ⌝ }
+        requires { ⌜ (b < n) × (i < 24) × (n ≤ 224) × (n ≤ length (now masks)) × (getD (self .loads) i 0 + w < 2 ^ 32) × (self .pushes + 1 < 2 ^ 32) ⌝ }
         requires { ⌜ None b (λ c. waits (self .places) (now masks) c) ⌝ }
         ensures { λ r. ⌜ r ≡ jobPlaced self b i w (now (masks .entry)) n ⌝ }
     {
@@ -71,7 +71,7 @@ impl State {
 
     // Job `b`, which takes `w` minutes, is taken off machine `i`: both by index. It is the only one that waits.
     fn take_off(mut self, b: usize, i: usize, w: u32) -> State
-        requires { ⌜ (b < 200) × (i < 24) × (w ≤ getD (self .loads) i 0) × (self .pushes + 1 < 2 ^ 32) ⌝ }
+        requires { ⌜ (b < 224) × (i < 24) × (w ≤ getD (self .loads) i 0) × (self .pushes + 1 < 2 ^ 32) ⌝ }
         ensures { λ r. ⌜ r ≡ takenOff self b i w ⌝ }
     {
         self.places[b] = 0;

@@ -79,11 +79,11 @@ list-part counts lists b =
     ap (λ (i : ℕ). take i (drop (b * 24) lists)) e
 
 -- the next line
-pub lines-more : {d e f : List ℕ} {n : ℕ} (minutes places counts lists : List ℕ) (b q : ℕ) → Rows counts lists n → b < n
-    → Wrote d 13 (linesTo minutes places counts lists b) (linesLength counts b) e → q ≡ 13 + linesLength counts b
-    → 13 + linesLength counts n ≤ length d
+pub lines-more : {d e f : List ℕ} {p n : ℕ} (minutes places counts lists : List ℕ) (b q : ℕ) → Rows counts lists n → b < n
+    → Wrote d p (linesTo minutes places counts lists b) (linesLength counts b) e → q ≡ p + linesLength counts b
+    → p + linesLength counts n ≤ length d
     → f ≡ paste e q (renderBatch (batchIn minutes places counts lists b)) (lineLength (length (take (getD counts b 0) (drop (b * 24) lists))))
-    → Wrote d 13 (linesTo minutes places counts lists (b + 1)) (linesLength counts (b + 1)) f
+    → Wrote d p (linesTo minutes places counts lists (b + 1)) (linesLength counts (b + 1)) f
 lines-more {e = e} {n = n} minutes places counts lists b q r h w a room g =
     let x = batchIn minutes places counts lists b in
     let l = list-length b r h in

@@ -1,12 +1,11 @@
 -- The file of a sound sheet, from its arrays.
-use Prim.Native.Nat.{ℕ, zero, suc, _+_, _≤_, _<_}
+use Prim.Native.Nat.{ℕ, zero, suc, _+_, _*_, _≤_, _<_}
 use mathlib.Core.Path.{_≡_, refl, sym, ap, ap₂, _∙_}
 use mathlib.Core.List.{List, [], _∷_, _++_, map, append-assoc, append-nil, map-append}
 use native.Mathlib.Omega.{arith}
-use lib.ListN.{length, getD, drop, length-append, length-map}
+use lib.ListN.{length, getD, take, drop, length-append, length-map}
 use lib.Seq.{paste}
-use Rattle.rules.specs.Sheet.{Batch}
-use Rattle.rules.specs.Instance.{Job, instance, places, n}
+use Rattle.rules.specs.Sheet.{Batch, size}
 use Rattle.rules.specs.Render.{line, Described, renderBatch, renderBatches, render, describedBatch}
 use Rattle.rules.specs.Rewrite.{written}
 use Rattle.theory.proofs.Fields.{line-length}
@@ -18,7 +17,7 @@ use Rattle.sheet.specs.Represent.{padded, rows, batchAt, batchesTo, bookOf, Sou
 use Rattle.sheet.proofs.SoundArrays.{book-m, book-size, few-batches, narrow-book, list-size}
 use Rattle.sheet.proofs.Padded.{length-padded}
 use Rattle.sheet.proofs.Represent.{length-rows}
-use Rattle.sheet.proofs.SoundViews.{view-size, view-minutes, view-places, view-counts, view-rows}
+use Rattle.sheet.proofs.SoundViews.{view-calibrated, view-calibrations, view-minutes, view-places, view-counts, view-rows}
 use Rattle.text.proofs.Pasted.{wrote-more, wrote-start, start-wrote}
 use Rattle.written.specs.Lines.{linesLength, linesTo}
 use Rattle.written.proofs.Lines.{Rows, lines-length}
@@ -39,19 +38,26 @@ lines-are s (suc b) =
     ∙ batches-snoc (map describedBatch (batchesTo s b)) (describedBatch (batchAt s b))
     ∙ ap (λ (r : List ℕ). r ++ renderBatch (describedBatch (batchAt s b))) (lines-are s b)
 
+-- lines 1 and 2
+abbrev pub headLines : ℕ → ℕ → List ℕ → List ℕ
+headLines m n calibrations = line (m ∷ n ∷ []) ++ line calibrations
+
 written-is : (s : Sheet) → written (bookOf s)
-    ≡ line (s .m ∷ s .n ∷ []) ++ linesTo (s .minutes) (s .places) (s .counts) (s .lists) (s .n)
+    ≡ headLines (s .m) (s .n) (take (s .m) (s .calibrations)) ++ linesTo (s .minutes) (s .places) (s .counts) (s .lists) (s .n)
 unfolding written render bookOf
 written-is s =
     let e : length (map describedBatch (batchesTo s (s .n))) ≡ s .n =
     length-map (batchesTo s (s .n)) describedBatch ∙ book-size s in
-    ap₂ (λ (i : ℕ) (r : List ℕ). line (s .m ∷ i ∷ []) ++ r) e (lines-are s (s .n))
+    let l = line (take (s .m) (s .calibrations)) in
+    ap₂ (λ (i : ℕ) (r : List ℕ). line (s .m ∷ i ∷ []) ++ (l ++ r)) e (lines-are s (s .n))
+    ∙ sym (append-assoc (line (s .m ∷ s .n ∷ [])) l (linesTo (s .minutes) (s .places) (s .counts) (s .lists) (s .n)))
 
 -- ---- what the code takes of a sound sheet, and what it makes of it
 
-pub record Held (s : Sheet) (i c : ℕ) (t p k l : List ℕ) : Type 0 where
+pub record Held (s : Sheet) (i c : ℕ) (g t p k l : List ℕ) : Type 0 where
   pub instruments : i ≡ s .m
   pub batches : c ≡ s .n
+  pub calibrations : g ≡ s .calibrations
   pub minutes : t ≡ s .minutes
   pub places : p ≡ s .places
   pub counts : k ≡ s .counts
@@ -70,51 +76,78 @@ module _ (s : Sheet) (v : Sound s) where
           ∙ length-padded 4800 (rows (bookOf s .batches))
           (omega (arith, length-rows (bookOf s .batches) (narrow-book s v), book-size s, few-batches s v))
 
-  pub held : (i c : ℕ) (t p k l : List ℕ) → i ≡ instance (bookOf s) .m → c ≡ n (instance (bookOf s))
-      → t ≡ padded 200 (map (λ (j : Job). j .minutes) (instance (bookOf s) .jobs)) → p ≡ padded 200 (places (bookOf s))
+  pub held : (i c : ℕ) (g t p k l : List ℕ) → i ≡ bookOf s .m → c ≡ size (bookOf s) → g ≡ padded 24 (bookOf s .calibrations)
+      → t ≡ padded 200 (map (λ (b : Batch). b .minutes) (bookOf s .batches)) → p ≡ padded 200 (map (λ (b : Batch). b .place) (bookOf s .batches))
       → k ≡ padded 200 (map (λ (b : Batch). length (b .list)) (bookOf s .batches)) → l ≡ padded 4800 (rows (bookOf s .batches))
-      → Held s i c t p k l
-  held i c t p k l a b d e f g = record {
+      → Held s i c g t p k l
+  held i c g t p k l a b q d e f h = record {
     instruments = a ∙ book-m s;
-    batches = b ∙ view-size s;
+    batches = b ∙ book-size s;
+    calibrations = q ∙ sym (view-calibrations s v);
     minutes = d ∙ sym (view-minutes s v);
     places = e ∙ sym (view-places s v);
     counts = f ∙ sym (view-counts s v);
-    lists = g ∙ sym (view-rows s v);
+    lists = h ∙ sym (view-rows s v);
   }
 
-  pub written-length : length (written (bookOf s)) ≡ 13 + linesLength (s .counts) (s .n)
+  -- a calibration for each instrument
+  calibrations-long : length (take (s .m) (s .calibrations)) ≡ s .m
+  unfolding bookOf
+  calibrations-long = view-calibrated s v
+
+  head-length : length (headLines (s .m) (s .n) (take (s .m) (s .calibrations))) ≡ 6 * s .m + 14
+  head-length =
+      let l = take (s .m) (s .calibrations) in
+      omega (arith, length-append (line (s .m ∷ s .n ∷ [])) (line l), line-length (s .m ∷ s .n ∷ []), line-length l, calibrations-long)
+
+  pub written-length : length (written (bookOf s)) ≡ 6 * s .m + 14 + linesLength (s .counts) (s .n)
   written-length =
-      let l = line (s .m ∷ s .n ∷ []) in
+      let h = headLines (s .m) (s .n) (take (s .m) (s .calibrations)) in
       ap length (written-is s)
-      ∙ length-append l (linesTo (s .minutes) (s .places) (s .counts) (s .lists) (s .n))
-      ∙ omega (arith, line-length (s .m ∷ s .n ∷ []), lines-length (s .minutes) (s .places) (s .n) sheet-rows (omega arith))
+      ∙ length-append h (linesTo (s .minutes) (s .places) (s .counts) (s .lists) (s .n))
+      ∙ omega (arith, head-length, lines-length (s .minutes) (s .places) (s .n) sheet-rows (omega arith))
 
   -- with the sheet's numbers as the code has them
-  module _ (c : ℕ) (k : List ℕ) (b : c ≡ n (instance (bookOf s))) (f : k ≡ padded 200 (map (λ (b : Batch). length (b .list)) (bookOf s .batches))) where
-    pub file-length : length (written (bookOf s)) ≡ 13 + linesLength k c
-    file-length = written-length ∙ ap₂ (λ (i : ℕ) (l : List ℕ). 13 + linesLength l i) (sym (b ∙ view-size s)) (view-counts s v ∙ sym f)
+  module _ (m c : ℕ) (k : List ℕ) (a : m ≡ bookOf s .m) (b : c ≡ size (bookOf s)) (f : k ≡ padded 200 (map (λ (b : Batch). length (b .list)) (bookOf s .batches))) where
+    pub file-length : length (written (bookOf s)) ≡ 6 * m + 14 + linesLength k c
+    file-length =
+        written-length
+        ∙ ap₂ (λ (i : ℕ) (l : List ℕ). 6 * s .m + 14 + linesLength l i) (sym (b ∙ book-size s)) (view-counts s v ∙ sym f)
+        ∙ ap (λ (i : ℕ). 6 * i + 14 + linesLength k c) (sym (a ∙ book-m s))
 
     pub file-narrow : (i : ℕ) → i < c → getD k i 0 ≤ 24
     file-narrow i h =
         let e : k ≡ s .counts = f ∙ sym (view-counts s v) in
-        rw e (sheet-rows .narrow i (omega (arith, view-size s)))
+        rw e (sheet-rows .narrow i (omega (arith, book-size s)))
 
-  -- behind line 1, all batch lines
-  pub file-wrote : (m n : ℕ) (minutes places counts lists d e f : List ℕ) → Held s m n minutes places counts lists
-      → 13 + linesLength counts n ≤ length d → e ≡ line (m ∷ n ∷ []) ++ drop 13 d
-      → f ≡ paste e 13 (linesTo minutes places counts lists n) (linesLength counts n)
-      → f ≡ written (bookOf s) ++ drop (13 + linesLength counts n) d
-  file-wrote m n minutes places counts lists d e f h r p q =
-      let g : f ≡ paste e 13 (linesTo (s .minutes) (s .places) (s .counts) (s .lists) (s .n)) (linesLength (s .counts) (s .n)) =
-      rw (h .batches, h .minutes, h .places, h .counts, h .lists) at q in
-      let k : e ≡ line (s .m ∷ s .n ∷ []) ++ drop 13 d = rw (h .instruments, h .batches) at p in
-      let c : 13 + linesLength (s .counts) (s .n) ≤ length d = rw (h .batches, h .counts) at r in
-      let w = start-wrote {d = d} {s = line (s .m ∷ s .n ∷ [])} (line-length (s .m ∷ s .n ∷ [])) (omega arith) k in
-      let x =
-      wrote-more (linesTo (s .minutes) (s .places) (s .counts) (s .lists) (s .n)) 13 (linesLength (s .counts) (s .n))
-      (13 + linesLength (s .counts) (s .n)) w refl refl (lines-length (s .minutes) (s .places) (s .n) sheet-rows (omega arith)) (omega arith) g in
-      wrote-start x (sym (written-is s)) ∙ ap₂ (λ (i : ℕ) (l : List ℕ). written (bookOf s) ++ drop (13 + linesLength l i) d) (sym (h .batches)) (sym (h .counts))
+  -- behind line 1 line 2, and behind that all batch lines
+  pub file-wrote : (m n : ℕ) (calibrations minutes places counts lists d e f g : List ℕ) → Held s m n calibrations minutes places counts lists
+      → 6 * m + 14 + linesLength counts n ≤ length d → e ≡ line (m ∷ n ∷ []) ++ drop 13 d
+      → f ≡ paste e 13 (line (take m calibrations)) (6 * length (take m calibrations) + 1)
+      → g ≡ paste f (6 * m + 14) (linesTo minutes places counts lists n) (linesLength counts n)
+      → g ≡ written (bookOf s) ++ drop (6 * m + 14 + linesLength counts n) d
+  file-wrote m n calibrations minutes places counts lists d e f g h r p q t =
+      rw (h .instruments, h .batches, h .counts)
+      (wrote-start
+      (wrote-more (linesTo (s .minutes) (s .places) (s .counts) (s .lists) (s .n)) (6 * s .m + 14) (linesLength (s .counts) (s .n))
+      (6 * s .m + 14 + linesLength (s .counts) (s .n))
+      (wrote-more (line (take (s .m) (s .calibrations))) 13 (6 * s .m + 1) (6 * s .m + 14)
+      (start-wrote {d = d} {s = line (s .m ∷ s .n ∷ [])} (line-length (s .m ∷ s .n ∷ [])) (omega (arith, room)) one)
+      refl (omega arith) (omega (arith, line-length (take (s .m) (s .calibrations)), calibrations-long)) (omega (arith, room)) two)
+      (omega arith) refl (lines-length (s .minutes) (s .places) (s .n) sheet-rows (omega arith)) (omega (arith, room)) three)
+      (sym (written-is s)))
+    where
+      room : 6 * s .m + 14 + linesLength (s .counts) (s .n) ≤ length d
+      room = rw (h .instruments, h .batches, h .counts) at r
+
+      one : e ≡ line (s .m ∷ s .n ∷ []) ++ drop 13 d
+      one = rw (h .instruments, h .batches) at p
+
+      two : f ≡ paste e 13 (line (take (s .m) (s .calibrations))) (6 * s .m + 1)
+      two = (rw (h .instruments, h .calibrations) at q) ∙ ap (λ (i : ℕ). paste e 13 (line (take (s .m) (s .calibrations))) (6 * i + 1)) calibrations-long
+
+      three : g ≡ paste f (6 * s .m + 14) (linesTo (s .minutes) (s .places) (s .counts) (s .lists) (s .n)) (linesLength (s .counts) (s .n))
+      three = rw (h .instruments, h .batches, h .minutes, h .places, h .counts, h .lists) at t
 
 -- ---- and read again: the very same sheet
 

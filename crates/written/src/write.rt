@@ -13,6 +13,7 @@ ghost use Rattle.written.specs.Lines.{numberedBatch, lineLength, linesLe
 use journal::run::left_by;
 use sheet::Sheet;
 use text::Hosted;
+use text::put_line;
 use text::put_list;
 use text::put_pair;
 use text::put_two;
@@ -49,22 +50,23 @@ fn put_batch(out: &mut [u8], at: usize, minutes: u16, place: u8, list: &[u8])
     put_list(out, at + 12, list);
 }
 
-// Writes the lines of the first n batches behind line 1. Batch b's list starts at 24 (b - 1) in lists.
+// Writes the lines of the first n batches from start on. Batch b's list starts at 24 (b - 1) in lists.
 fn put_batches(
     out: &mut [u8],
+    start: usize,
     n: usize,
     minutes: &[u16],
     places: &[u8],
     counts: &[u8],
     lists: &[u8],
 )
-    requires { ⌜ (13 + linesLength (now counts) n ≤ length (now out)) × (n ≤ 200) × (n ≤ length (now minutes)) × (n ≤ length (now places))
+    requires { ⌜ (start + linesLength (now counts) n ≤ length (now out)) × (n ≤ 200) × (n ≤ length (now minutes)) × (n ≤ length (now places))
         × (n ≤ length (now counts)) × (24 * n ≤ length (now lists)) ⌝ ∗ ⌜ ((b : ℕ) → b < n → getD (now counts) b 0 ≤ 24) ⌝ }
     ensures { λ _. ⌜ now (out .exit)
-        ≡ paste (now (out .entry)) 13 (linesTo (now (minutes .entry)) (now (places .entry)) (now (counts .entry)) (now (lists .entry)) n)
+        ≡ paste (now (out .entry)) start (linesTo (now (minutes .entry)) (now (places .entry)) (now (counts .entry)) (now (lists .entry)) n)
         (linesLength (now (counts .entry)) n) ⌝ }
 {
-    let mut at = 13;
+    let mut at = start;
     let mut b = 0;
     while b < n {
         let count = counts[b];
@@ -85,7 +87,8 @@ pub fn write(sheet: Sheet, out: &mut [u8]) -> Hosted
     let m = sheet.instruments();
     let n = sheet.batches();
     let counts = sheet.counts();
-    let length = 13 + lines_length(&counts, n);
+    let start = 6 * m + 14;
+    let length = start + lines_length(&counts, n);
     if out.len() < length {
         return Hosted {
             refusal: 9,
@@ -96,8 +99,10 @@ pub fn write(sheet: Sheet, out: &mut [u8]) -> Hosted
     let minutes = sheet.minutes();
     let places = sheet.places();
     let lists = sheet.lists();
+    let calibrations = sheet.calibrations();
     put_pair(out, m as u32, n as u32);
-    put_batches(out, n, &minutes, &places, &counts, &lists);
+    put_line(out, 13, &calibrations[..m]);
+    put_batches(out, start, n, &minutes, &places, &counts, &lists);
     Hosted {
         refusal: 0,
         line: 0,

@@ -27,6 +27,7 @@ const WIDE: Shape = Shape {
     instruments: (1, 24),
     batches: (0, 12),
     lengths: (1, 1440),
+    calibrations: Sheet::CALIBRATION,
 };
 
 /// Many short batches on many instruments: long trials.
@@ -34,6 +35,7 @@ const CROWDED: Shape = Shape {
     instruments: (8, 24),
     batches: (100, 200),
     lengths: (1, 9),
+    calibrations: 20,
 };
 
 fn shape(rng: &mut Rng) -> Shape {
@@ -70,6 +72,7 @@ pub fn largest(seed: u64, count: usize) -> Vec<Case> {
     let case = |_| {
         let draft = Draft {
             instruments: 24,
+            calibrations: gen::calibrations(&mut rng, 24, Sheet::CALIBRATION),
             lines: (0..200).map(|_| line(&mut rng)).collect(),
         };
         Case::from(draft.render())
@@ -129,18 +132,19 @@ pub fn every_byte(seed: u64) -> Vec<Case> {
     cases.into_iter().map(Case::from).collect()
 }
 
-/// A sheet of 24 instruments with every field of one line replaced in turn by
-/// numbers at the edges and by what is no number.
+/// A sheet of 24 instruments with every field of line 2 and of one batch's line
+/// replaced in turn by numbers at the edges and by what is no number.
 pub fn every_field(seed: u64) -> Vec<Case> {
-    const TEXTS: [&[u8; 6]; 26] = [
+    const TEXTS: [&[u8; 6]; 29] = [
         b"     0", b"     1", b"     2", b"    23", b"    24", b"    25", b"    26", b"   200",
-        b"   201", b"   256", b"   257", b"  1440", b"  1441", b" 65536", b" 65537", b"999999",
-        b"      ", b"    00", b"    07", b"000001", b"     x", b"    -1", b"    +1", b"1     ",
-        b"   1 2", b"     \n",
+        b"   201", b"   239", b"   240", b"   241", b"   256", b"   257", b"  1440", b"  1441",
+        b" 65536", b" 65537", b"999999", b"      ", b"    00", b"    07", b"000001", b"     x",
+        b"    -1", b"    +1", b"1     ", b"   1 2", b"     \n",
     ];
     let mut rng = Rng::new(seed);
     let n = rng.within(1, 6);
-    let mut draft = Draft::new(24, &[]);
+    let calibrations = gen::calibrations(&mut rng, 24, Sheet::CALIBRATION);
+    let mut draft = Draft::new(24, &[]).calibrated(&calibrations);
     for _ in 0..n {
         let list = gen::list(&mut rng, 24, 24);
         draft.lines.push(Line {
@@ -151,12 +155,14 @@ pub fn every_field(seed: u64) -> Vec<Case> {
     }
     let file = draft.render();
     let line = rng.below(n as u64) as usize;
-    let start = 13 + line * (27 * 6 + 1);
+    let start = 13 + (24 * 6 + 1) + line * (27 * 6 + 1);
+    let calibrations = (0..24).map(|field| 13 + 6 * field);
+    let batch = (0..27).map(|field| start + 6 * field);
     let mut cases = Vec::new();
-    for field in 0..27 {
+    for at in calibrations.chain(batch) {
         for text in TEXTS {
             let mut changed = file.clone();
-            changed[start + 6 * field..][..6].copy_from_slice(text);
+            changed[at..at + 6].copy_from_slice(text);
             cases.push(Case::from(changed));
         }
     }
@@ -254,7 +260,7 @@ fn fault(rng: &mut Rng, draft: &mut Draft) -> Option<Change> {
     // A first fault may have spoilt the number of instruments.
     let m = draft.instruments.clamp(1, 24);
     let at = rng.below(draft.lines.len() as u64) as usize;
-    let kind = rng.below(18);
+    let kind = rng.below(22);
     let line = &mut draft.lines[at];
     if line.list.is_empty() {
         return Some(Change::Tail);
@@ -282,20 +288,32 @@ fn fault(rng: &mut Rng, draft: &mut Draft) -> Option<Change> {
         12 => {
             let count = *rng.pick(&[0, 1, m - 1, m, m + 1, 25, 256, 999_999]);
             return Some(Change::Count {
-                line: at + 2,
+                line: at + 3,
                 count,
             });
         }
         13 => return Some(Change::Tail),
         14 | 15 => {
             return Some(Change::Blank {
-                line: rng.within(1, at as u32 + 2) as usize,
+                line: rng.within(1, at as u32 + 3) as usize,
             })
         }
-        _ => {
+        16 | 17 => {
             return Some(Change::End {
-                line: rng.within(1, at as u32 + 2) as usize,
+                line: rng.within(1, at as u32 + 3) as usize,
             })
+        }
+        18 => {
+            // One calibration too few or too many.
+            if draft.calibrations.len() > 1 && rng.once_in(2) {
+                draft.calibrations.pop();
+            } else {
+                draft.calibrations.push(*rng.pick(&[0, 240, 241]));
+            }
+        }
+        _ => {
+            let k = rng.below(draft.calibrations.len() as u64) as usize;
+            draft.calibrations[k] = *rng.pick(&[241, 242, 256, 257, 496, 65_536, 65_776, 999_999]);
         }
     }
     None
@@ -432,11 +450,15 @@ fn levels(rng: &mut Rng, sheet: &Sheet, times: usize, calls: &mut Vec<Call>) {
     }
 }
 
-/// Hard sheets of 24 instruments and 200 batches, each with some edits.
+/// Hard sheets of 24 instruments and 200 batches, each with some edits; those of
+/// odd seeds have calibrations.
 pub fn hard_edits(seed: u64, count: usize) -> Vec<(Sheet, Vec<Call>)> {
     let mut rng = Rng::new(seed);
     let case = |_| {
-        let start = gen::hard(rng.next_u64());
+        let start = match seed % 2 {
+            0 => gen::hard(rng.next_u64()),
+            _ => gen::hard_calibrated(rng.next_u64()),
+        };
         let mut sheet = start.clone();
         let mut calls = Vec::new();
         for _ in 0..rng.within(1, 8) {

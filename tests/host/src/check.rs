@@ -163,7 +163,7 @@ pub struct Judge<P> {
 }
 
 /// Calls by refusal number, 0 for none, and by kind of buffer.
-pub type Calls = [[usize; 8]; 10];
+pub type Calls = [[usize; 8]; 11];
 
 impl<P: Fn(&[u8], &mut [u8]) -> Hosted> Judge<P> {
     pub fn new(planner: P) -> Judge<P> {
@@ -214,8 +214,8 @@ pub struct Met {
     pub rewritten: Calls,
     /// By refusal number, the lines at which reading was refused, and how often
     /// that was one with its place left blank.
-    pub lines: [BTreeSet<usize>; 10],
-    pub at_blank: [usize; 10],
+    pub lines: [BTreeSet<usize>; 11],
+    pub at_blank: [usize; 11],
     pub plans: Plans,
     /// Sheets that were written as they were given, and those in which a place
     /// was filled in.
@@ -233,6 +233,11 @@ pub struct Plans {
     pub small: usize,
     pub middle: usize,
     pub largest: usize,
+    /// Sheets with a calibration above 0, those of them without a batch, and
+    /// those with a calibration that is longer than any batch.
+    pub calibrated: usize,
+    pub only: usize,
+    pub longer: usize,
     /// Batches with a place given, with place 0 and with a blank one.
     pub given: usize,
     pub open: usize,
@@ -241,7 +246,7 @@ pub struct Plans {
     pub none: usize,
     pub some: usize,
     pub all: usize,
-    /// Floors that the group shows, not the longest batch.
+    /// Floors that the group shows, not the longest batch or calibration.
     pub shown: usize,
     /// Trials kept that made steps, and settlings that made moves.
     pub worked: usize,
@@ -260,7 +265,7 @@ impl Met {
                 self.lines[number].insert(*line);
                 let text = sheet.split(|&b| b == b'\n').nth(line - 1);
                 let place = text.and_then(|text| text.get(6..12));
-                self.at_blank[number] += (*line > 1 && place == Some(b"      ")) as usize;
+                self.at_blank[number] += (*line > 2 && place == Some(b"      ")) as usize;
             }
             Due::Text(listing) => self.plans.plan(sheet, listing),
         }
@@ -271,7 +276,7 @@ impl Met {
         for (ours, theirs) in self.lines.iter_mut().zip(other.lines) {
             ours.extend(theirs);
         }
-        for number in 0..10 {
+        for number in 0..self.at_blank.len() {
             self.at_blank[number] += other.at_blank[number];
             for room in 0..8 {
                 self.planned[number][room] += other.planned[number][room];
@@ -308,7 +313,11 @@ impl Plans {
         self.small += (1..=9).contains(&n) as usize;
         self.middle += (20..=199).contains(&n) as usize;
         self.largest += ((m, n) == (24, 200)) as usize;
-        for line in sheet.split(|&b| b == b'\n').skip(1).take(n) {
+        let mut lines = sheet.split(|&b| b == b'\n').skip(1);
+        let calibrations = lines.next().expect("line 2").chunks(6);
+        let minutes = |field| String::from_utf8_lossy(field).trim_start().parse().ok();
+        let calibration: u32 = calibrations.filter_map(minutes).max().expect("a field");
+        for line in lines.take(n) {
             match &line[6..12] {
                 b"     0" => self.open += 1,
                 b"      " => self.blank += 1,
@@ -320,9 +329,12 @@ impl Plans {
             k if k < m => self.some += 1,
             _ => self.all += 1,
         }
-        let longest = read.batches.iter().map(|batch| batch[2]).max();
+        let batch = read.batches.iter().map(|batch| batch[2]).max().unwrap_or(0);
         let steps = read.raises + read.bumps;
-        self.shown += (read.floor > longest.unwrap_or(0)) as usize;
+        self.calibrated += (calibration > 0) as usize;
+        self.only += (calibration > 0 && n == 0) as usize;
+        self.longer += (calibration > batch) as usize;
+        self.shown += (read.floor > batch.max(calibration)) as usize;
         self.worked += (steps > 0) as usize;
         self.moved += (read.moves > 0) as usize;
         self.steps = self.steps.max(steps);
@@ -335,6 +347,9 @@ impl Plans {
         self.small += other.small;
         self.middle += other.middle;
         self.largest += other.largest;
+        self.calibrated += other.calibrated;
+        self.only += other.only;
+        self.longer += other.longer;
         self.given += other.given;
         self.open += other.open;
         self.blank += other.blank;

@@ -94,7 +94,7 @@ impl<A: Answer> Made<A> {
     fn new(answer: A, moves: [Move; 200], written: Vec<u8>) -> Made<A> {
         Made {
             answer,
-            batches: written.iter().filter(|&&b| b == b'\n').count() - 1,
+            batches: written.iter().filter(|&&b| b == b'\n').count() - 2,
             records: moves[..answer.records()].to_vec(),
             written,
         }
@@ -218,7 +218,7 @@ pub struct Judge<F> {
 }
 
 /// Calls by refusal number, 0 for none, by list and by buffer.
-pub type Calls = [[[usize; 5]; 5]; 10];
+pub type Calls = [[[usize; 5]; 5]; 11];
 
 /// Sizes of a list or a buffer for which so much is due: none, one less, as
 /// much, one more and much more. Where nothing is due there is no less.

@@ -1,4 +1,5 @@
-//! Kinds of sheets at the limits: 24 instruments and 200 batches.
+//! Kinds of sheets at the limits: 24 instruments and 200 batches. But for one
+//! hard shape no calibration is above 0.
 
 use second::rng::Rng;
 use second::{gen, Draft, Line};
@@ -113,8 +114,8 @@ impl Kind {
         };
         let lines = (0..200).map(line).collect();
         Draft {
-            instruments: m,
             lines,
+            ..Draft::new(m, &[])
         }
     }
 }
@@ -122,6 +123,11 @@ impl Kind {
 /// The hard shape of this seed.
 pub fn hard(seed: u64) -> Vec<u8> {
     Draft::from(&gen::hard(seed)).render()
+}
+
+/// The hard shape with calibrations.
+pub fn hard_calibrated(seed: u64) -> Vec<u8> {
+    Draft::from(&gen::hard_calibrated(seed)).render()
 }
 
 /// A sheet of this kind whose last byte, and nothing before it, is a fault.

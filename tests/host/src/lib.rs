@@ -4,6 +4,7 @@
 //! and settle take a sheet alone and give it back, with records of their moves
 //! in a lent list.
 
+pub mod astray;
 pub mod cases;
 pub mod check;
 pub mod due;
@@ -119,14 +120,15 @@ extern "C" {
 
 /// The sheet of document 01's first case.
 pub const SHEET: &str = "     2     3
+     0     0
     30     1     2     1     2
     20     1     1     1
     10     1     2     1     2
 ";
 
-/// The most bytes that a written sheet has: 200 batches, each with a list of
-/// 24 instruments.
-pub const LARGEST_SHEET: usize = 13 + 200 * (6 * 27 + 1);
+/// The most bytes that a written sheet has: 24 calibrations, and 200 batches,
+/// each with a list of 24 instruments.
+pub const LARGEST_SHEET: usize = 13 + (6 * 24 + 1) + 200 * (6 * 27 + 1);
 
 /// No answer's line has more bytes: a balance of 200 batches that all move, with
 /// a group of 24, would have so many.

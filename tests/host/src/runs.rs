@@ -313,6 +313,8 @@ pub struct Left {
     /// Sheets left without a batch and with 200.
     pub empty: usize,
     pub full: usize,
+    /// Sheets with a calibration above 0.
+    pub calibrated: usize,
     /// Batches left with a list that does not ascend, and on another instrument
     /// than the first listed.
     pub unordered: usize,
@@ -329,6 +331,7 @@ impl Left {
         }
         self.empty += sheet.batches().is_empty() as usize;
         self.full += (sheet.batches().len() == Sheet::BATCHES) as usize;
+        self.calibrated += sheet.calibrations().iter().any(|&c| c > 0) as usize;
         for batch in sheet.batches() {
             self.unordered += !batch.list.is_sorted() as usize;
             self.elsewhere += (batch.place != batch.list[0]) as usize;
@@ -341,6 +344,7 @@ impl Left {
         self.kept += other.kept;
         self.empty += other.empty;
         self.full += other.full;
+        self.calibrated += other.calibrated;
         self.unordered += other.unordered;
         self.elsewhere += other.elsewhere;
     }

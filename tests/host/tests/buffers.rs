@@ -52,7 +52,7 @@ fn every_size() {
 /// No room at all: a good sheet is 9, a bad one what its fault is.
 #[test]
 fn empty_buffers() {
-    let mut counts = [0; 10];
+    let mut counts = [0; 11];
     let bad = (24..28).flat_map(|run| cases::faulty(run, 300));
     for case in cases::sound(14, 500).into_iter().chain(bad) {
         let hosted = plan(&case.sheet, &mut Vec::new());
@@ -70,7 +70,9 @@ fn empty_buffers() {
     }
     println!("by refusal: {counts:?}");
     assert!(counts[9] >= 500);
-    assert!(counts[1..=5].iter().all(|&count| count >= 20), "{counts:?}");
+    for refusal in [1, 2, 3, 4, 5, 10] {
+        assert!(counts[refusal] >= 20, "{counts:?}");
+    }
 }
 
 /// A sheet that stands between other bytes, at any offset and cut anywhere
@@ -79,7 +81,7 @@ fn empty_buffers() {
 fn bytes_beside_the_sheet() {
     let mut judge = Judge::new(plan);
     let mut rng = Rng::new(15);
-    let mut refusals = [0; 10];
+    let mut refusals = [0; 11];
     for round in 0..40 {
         let mut file = match round {
             0 => SHEET.as_bytes().to_vec(),
@@ -130,7 +132,12 @@ fn filled(sheet: &[u8], starts: Vec<usize>, text: &[u8; 6]) -> Vec<u8> {
 /// A planner that is right but for one thing.
 type Cheat = (&'static str, fn(&[u8], &mut [u8]) -> Hosted);
 
-const CHEATS: [Cheat; 17] = [
+/// The lines of a sheet, each with its LF.
+fn lines(sheet: &[u8]) -> Vec<&[u8]> {
+    sheet.split_inclusive(|&b| b == b'\n').collect()
+}
+
+const CHEATS: [Cheat; 25] = [
     ("writes past the listing", |sheet, listing| {
         let hosted = plan(sheet, listing);
         if let Some(next) = listing.get_mut(hosted.length as usize) {
@@ -229,6 +236,61 @@ const CHEATS: [Cheat; 17] = [
     ("takes any blank field for 0", |sheet, listing| {
         plan(&filled(sheet, gen::fields(sheet), b"     0"), listing)
     }),
+    ("judges calibrations after their LF", |sheet, listing| {
+        let hosted = plan(sheet, listing);
+        let fields = |line: &&[u8]| line.len() == 2 * 6 + 1;
+        match hosted.refusal {
+            10 if !lines(sheet).get(1).is_some_and(fields) => Hosted {
+                refusal: 1,
+                ..hosted
+            },
+            _ => hosted,
+        }
+    }),
+    ("judges all fields of line 2 first", |sheet, listing| {
+        let hosted = plan(sheet, listing);
+        match hosted.refusal {
+            10 if sheet.contains(&b'x') => Hosted {
+                refusal: 1,
+                ..hosted
+            },
+            _ => hosted,
+        }
+    }),
+    ("gives a bad calibration line 1", |sheet, listing| {
+        let hosted = plan(sheet, listing);
+        let line = hosted.line - (hosted.refusal == 10) as usize;
+        Hosted { line, ..hosted }
+    }),
+    ("takes 3 for 10", |sheet, listing| {
+        let hosted = plan(sheet, listing);
+        let refusal = if hosted.refusal == 10 {
+            3
+        } else {
+            hosted.refusal
+        };
+        Hosted { refusal, ..hosted }
+    }),
+    ("takes a calibration of 241", |sheet, listing| {
+        let text = String::from_utf8_lossy(sheet).replace("   241", "   240");
+        plan(text.as_bytes(), listing)
+    }),
+    ("refuses a calibration of 240", |sheet, listing| {
+        let text = String::from_utf8_lossy(sheet).replace("   240", "   241");
+        plan(text.as_bytes(), listing)
+    }),
+    ("takes a sheet without line 2", |sheet, listing| {
+        let mut lines = lines(sheet);
+        if lines.len() > 2 && lines[1].len() > 13 {
+            lines.insert(1, b"     0     0\n");
+        }
+        plan(&lines.concat(), listing)
+    }),
+    ("counts lines without line 2", |sheet, listing| {
+        let hosted = plan(sheet, listing);
+        let line = hosted.line - (hosted.line > 2) as usize;
+        Hosted { line, ..hosted }
+    }),
     ("leaves out the last LF", |sheet, listing| {
         let mut hosted = plan(sheet, listing);
         if hosted.refusal == 0 {
@@ -246,18 +308,25 @@ const CHEATS: [Cheat; 17] = [
     }),
 ];
 
-/// Each is caught on six sheets, and the honest planner is not.
+/// Each is caught on these sheets, and the honest planner is not.
 #[test]
 fn cheats_are_caught() {
     let bad: Vec<u8> = SHEET.bytes().filter(|&b| b != b'3').collect();
     let mut place = SHEET.as_bytes().to_vec();
-    place[13 + 11] = b'3';
-    let sheets: [&[u8]; 6] = [
+    place[2 * 13 + 11] = b'3';
+    let without = SHEET.replace("     0     0\n", "");
+    let sheets: [&[u8]; 12] = [
         SHEET.as_bytes(),
+        without.as_bytes(),
+        b"     2     0\n   240     0\n",
+        b"     2     0\n     0   241\n",
+        b"     2     0\n   241    0x\n",
+        b"     2     0\n   241     0     0\n",
+        b"     2     0\n     0     0\n ",
         &bad,
         &place,
-        b"     1     0\n",
-        b"     2     1\n     5           2     2     1\n",
+        b"     1     0\n     0\n",
+        b"     2     1\n     0     0\n     5           2     2     1\n",
         b"     1      \n",
     ];
     let verdict = |planner: fn(&[u8], &mut [u8]) -> Hosted| -> Result<(), String> {

@@ -1,5 +1,6 @@
 //! Calls with a journal that are right but for one thing, and must be caught.
 
+use host::astray::{self, Ways, WAYS};
 use host::journal::{journal as lines, put_answer, read};
 use host::runs::{dues, Calls, Judge, Rooms, Runner, BAD_JOURNAL, BOTH};
 use host::{run, write, Hosted, SHEET};
@@ -15,7 +16,7 @@ const SHORT: Hosted = Hosted {
 };
 
 /// Wrong for either call.
-const EITHER: [Cheat; 27] = [
+const EITHER: [Cheat; 31] = [
     ("writes past the text", |call, sheet, journal, text| {
         let made = call(sheet, journal, text);
         if let Some(next) = text.get_mut(made.length) {
@@ -48,6 +49,54 @@ const EITHER: [Cheat; 27] = [
         }
         made
     }),
+    (
+        "writes for a bad calibration",
+        |call, sheet, journal, text| {
+            let made = call(sheet, journal, text);
+            if made.refusal == 10 {
+                text.fill(b' ');
+            }
+            made
+        },
+    ),
+    (
+        "judges the journal before a calibration",
+        |call, sheet, journal, text| {
+            let made = call(sheet, journal, text);
+            match read(journal) {
+                Err(line) if made.refusal == 10 => Hosted {
+                    refusal: BAD_JOURNAL,
+                    line,
+                    length: 0,
+                },
+                _ => made,
+            }
+        },
+    ),
+    (
+        "refuses calibrations",
+        |call, sheet, journal, text| match second::read(sheet) {
+            Ok(sheet) if astray::calibrated(&sheet) > 0 => Hosted {
+                refusal: 10,
+                line: 2,
+                length: 0,
+            },
+            _ => call(sheet, journal, text),
+        },
+    ),
+    (
+        "takes a sheet without line 2",
+        |call, sheet, journal, text| {
+            let mut whole = sheet.to_vec();
+            if let (Err(_), Some(b"     2")) = (second::read(sheet), sheet.get(..6)) {
+                whole.splice(13..13, *b"     0     0\n");
+            }
+            match second::read(&whole) {
+                Ok(_) => call(&whole, journal, text),
+                Err(_) => call(sheet, journal, text),
+            }
+        },
+    ),
     ("writes for a bad journal", |call, sheet, journal, text| {
         let made = call(sheet, journal, text);
         if made.refusal == BAD_JOURNAL {
@@ -480,7 +529,7 @@ fn settles(call: &Call) -> bool {
     matches!(call, Call::Settle { .. })
 }
 
-const WRITTEN: [Cheat; 20] = [
+const WRITTEN: [Cheat; 24] = [
     ("writes the answers", |_, sheet, journal, text| {
         run(sheet, journal, text)
     }),
@@ -494,6 +543,46 @@ const WRITTEN: [Cheat; 20] = [
             made
         },
     ),
+    (
+        "writes 0 for a calibration",
+        |call, sheet, journal, text| {
+            changed(call(sheet, journal, text), text, |draft| {
+                draft.calibrations.fill(0);
+            })
+        },
+    ),
+    (
+        "writes the calibrations backwards",
+        |call, sheet, journal, text| {
+            changed(call(sheet, journal, text), text, |draft| {
+                draft.calibrations.reverse();
+            })
+        },
+    ),
+    (
+        "writes the first calibration for all",
+        |call, sheet, journal, text| {
+            changed(call(sheet, journal, text), text, |draft| {
+                let first = draft.calibrations[0];
+                draft.calibrations.fill(first);
+            })
+        },
+    ),
+    ("leaves out line 2", |call, sheet, journal, text| {
+        let mut whole = vec![0; 10_000];
+        let mut made = call(sheet, journal, &mut whole);
+        if made.refusal == 0 {
+            whole.truncate(made.length);
+            let second = whole[13..].iter().position(|&b| b == b'\n').unwrap();
+            whole.drain(13..13 + second + 1);
+            let Some(front) = text.get_mut(..whole.len()) else {
+                return SHORT;
+            };
+            front.copy_from_slice(&whole);
+            made.length = whole.len();
+        }
+        made
+    }),
     ("writes 0 for a place", |call, sheet, journal, text| {
         changed(call(sheet, journal, text), text, |draft| {
             draft.lines.iter_mut().for_each(|line| line.place = Some(0));
@@ -564,7 +653,7 @@ const WRITTEN: [Cheat; 20] = [
         },
     ),
     ("leaves out the last line", |call, sheet, journal, text| {
-        let mut whole = vec![0; 2_000];
+        let mut whole = vec![0; 10_000];
         let made = call(sheet, journal, &mut whole);
         if made.refusal != 0 {
             return made;
@@ -648,15 +737,30 @@ const WRITTEN: [Cheat; 20] = [
     ),
 ];
 
+/// The answers to a journal's calls made in this way; nothing where the sheet or
+/// the journal has a fault.
+fn astray(sheet: &[u8], journal: &[u8], ways: Ways) -> Option<Vec<u8>> {
+    let (Ok(mut sheet), Ok(calls)) = (second::read(sheet), read(journal)) else {
+        return None;
+    };
+    let mut answers = Vec::new();
+    for call in &calls {
+        put_answer(&mut answers, &astray::apply(&mut sheet, call, ways));
+    }
+    Some(answers)
+}
+
 /// Does a call pass for the one that it is to be, on a few sheets and journals?
 fn verdict(which: usize, call: impl Fn(&[u8], &[u8], &mut [u8]) -> Hosted) -> Result<(), String> {
     let open = "     3     3
+     0     0     0
     30     0     2     3     2
     20           3     2     1     3
     10     1     2     3     1
 ";
     // Balance leaves it, settle does not.
     let unsettled = "     2     4
+     0     0
      2     2     1     2
      4     1     2     2     1
      5     1     2     2     1
@@ -664,15 +768,50 @@ fn verdict(which: usize, call: impl Fn(&[u8], &[u8], &mut [u8]) -> Hosted) -> Re
 ";
     // Settling moves a batch away and back.
     let returning = "     3     4
+     0     0     0
      1     3     1     3
      4     3     2     2     3
      2     2     1     2
      2     3     2     1     3
 ";
     // Balance makes more bumps than raises.
-    let bumps = "     2     2\n    30     0     1     1\n    20     0     2     1     2\n";
+    let bumps =
+        "     2     2\n     0     0\n    30     0     1     1\n    20     0     2     1     2\n";
     let bad = SHEET.replace("    20", "  1441");
-    let sheets = [SHEET, open, unsettled, returning, bumps, &bad];
+    // A calibration is bumped in a trial, another is longer than any batch.
+    let bumped = "     3     1\n    10     0    10\n    20     3     3     1     2     3\n";
+    let longer =
+        "     2     2\n    40     7\n    30     1     2     1     2\n     5     2     1     2\n";
+    // They show the floor of a group.
+    let group = "     3     3
+    25    25     0
+    30     1     2     1     2
+    30     2     2     2     1
+    10     1     3     3     2     1
+";
+    let only = "     2     0\n   240   239\n";
+    // One batch more is just taken.
+    let full = format!(
+        "     2   199\n     1     2\n{}",
+        "     1     1     1     1\n".repeat(199)
+    );
+    let calibration = SHEET.replace("     0     0", "     0   241");
+    let line_2 = SHEET.replace("     0     0\n", "");
+    let sheets = [
+        SHEET,
+        open,
+        unsettled,
+        returning,
+        bumps,
+        &bad,
+        bumped,
+        longer,
+        group,
+        only,
+        &full,
+        &calibration,
+        &line_2,
+    ];
     let edits = "     4     1     2\n     2     9\n     3     3     2     2     1\n     2     2\n";
     let journals = [
         String::new(),
@@ -683,6 +822,10 @@ fn verdict(which: usize, call: impl Fn(&[u8], &[u8], &mut [u8]) -> Hosted) -> Re
         "     7     3\n     5\n".into(),
         "     8     4\n     5\n".into(),
         "     8     2\n     7     2\n     8     1\n".into(),
+        "     6     0\n     6     5\n     6    82\n     6    83\n     6   479\n     6   480\n"
+            .into(),
+        "     5\n     7   199\n     8   199\n     5\n     1     9     1     1\n     7   200\n"
+            .into(),
         format!("{edits}     7     9"),
         format!("{edits}     8     9\n     7\n{edits}"),
         format!("{edits}     9\n{edits}"),
@@ -711,5 +854,23 @@ fn cheats_are_caught() {
             });
             assert!(found.is_err(), "not caught: {name}");
         }
+    }
+    // Ways to count calibrations, of which the first is right.
+    for (k, (name, ways)) in WAYS.into_iter().enumerate() {
+        let found = verdict(0, |sheet, journal, text| {
+            let Some(answers) = astray(sheet, journal, ways) else {
+                return run(sheet, journal, text);
+            };
+            let Some(front) = text.get_mut(..answers.len()) else {
+                return SHORT;
+            };
+            front.copy_from_slice(&answers);
+            Hosted {
+                refusal: 0,
+                line: 0,
+                length: answers.len(),
+            }
+        });
+        assert_eq!(found.is_ok(), k == 0, "{name}: {found:?}");
     }
 }

@@ -16,9 +16,10 @@ use second::{Draft, Sheet};
 /// The floor where this tells which lists lie in the group.
 fn floor(sheet: &Sheet, group: &[u32], mut inside: impl FnMut(&Marks, &Marks) -> bool) -> u32 {
     let marked = marks(group);
-    let confined = sheet.batches().iter();
-    let confined = confined.filter(|batch| inside(&marks(&batch.list), &marked));
-    let minutes: u32 = confined.map(|batch| batch.length).sum();
+    let items = sheet.items();
+    let confined = items.iter();
+    let confined = confined.filter(|item| inside(&marks(&item.list), &marked));
+    let minutes: u32 = confined.map(|item| item.length).sum();
     sheet.longest().max(minutes.div_ceil(group.len() as u32))
 }
 
@@ -188,6 +189,7 @@ fn random_sheets() {
             instruments: (m, m),
             batches: (10, 60),
             lengths: (1, 60),
+            calibrations: 30,
         };
         let sheet = gen::sheet(&mut rng, shape);
         let listing = planned(&sheet);

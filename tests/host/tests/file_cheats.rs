@@ -1,6 +1,7 @@
 //! Balance and settle on files that are right but for one thing, and must be
 //! caught.
 
+use host::astray::{self, Ways, WAYS};
 use host::filed::{balance_due, settle_due, Answer, Calls, Due, Filer, Judge, Made, Rooms};
 use host::{balance, settle, Balanced, Move, Settled, SHEET};
 use second::settle::next_move;
@@ -168,6 +169,80 @@ fn either<A: Common>() -> Vec<Cheat<A>> {
             }
             found
         }),
+        (
+            "writes for a bad calibration",
+            |call, sheet, moves, written| {
+                let found = call(sheet, moves, written);
+                if found.hosted().refusal == 10 {
+                    written.fill(b' ');
+                }
+                found
+            },
+        ),
+        (
+            "records for a bad calibration",
+            |call, sheet, moves, written| {
+                let found = call(sheet, moves, written);
+                if found.hosted().refusal == 10 {
+                    moves.fill(Move::default());
+                }
+                found
+            },
+        ),
+        (
+            "gives a bad calibration another line",
+            |call, sheet, moves, written| {
+                let mut found = call(sheet, moves, written);
+                *found.line() += (found.hosted().refusal == 10) as usize;
+                found
+            },
+        ),
+        (
+            "judges the list before a calibration",
+            |call, sheet, moves, written| match A::due(sheet) {
+                Due::Refused { refusal: 10, .. } if moves.is_empty() => A::refused(9, 0),
+                _ => call(sheet, moves, written),
+            },
+        ),
+        (
+            "wants an entry for each calibration",
+            |_, sheet, moves, written| {
+                made(sheet, moves, written, |made: &mut Made<A>| {
+                    made.batches += astray::calibrated(&sheet_of(sheet));
+                })
+            },
+        ),
+        ("writes 0 for a calibration", |_, sheet, moves, written| {
+            made(sheet, moves, written, |made: &mut Made<A>| {
+                let mut draft = Draft::from(&sheet_of(&made.written));
+                draft.calibrations.fill(0);
+                made.written = draft.render();
+            })
+        }),
+        ("leaves out line 2", |_, sheet, moves, written| {
+            made(sheet, moves, written, |made: &mut Made<A>| {
+                let line = 6 * sheet_of(sheet).instruments() as usize + 1;
+                made.written.drain(13..13 + line);
+                *made.answer.length() -= line;
+            })
+        }),
+        (
+            "gives a record of a calibration",
+            |_, sheet, moves, written| {
+                made(sheet, moves, written, |made: &mut Made<A>| {
+                    let sheet = sheet_of(sheet);
+                    if astray::calibrated(&sheet) > 0 && made.records.len() < made.batches {
+                        let batch = sheet.batches().len() as u32 + 1;
+                        made.records.push(Move {
+                            batch,
+                            from: 1,
+                            to: 1,
+                        });
+                        *made.answer.count() += 1;
+                    }
+                })
+            },
+        ),
         ("records for a bad sheet", |call, sheet, moves, written| {
             let found = call(sheet, moves, written);
             if (1..=5).contains(&found.hosted().refusal) {
@@ -545,34 +620,50 @@ fn verdict<A: Common>(call: impl Fn(&[u8], &mut [Move], &mut [u8]) -> A) -> Resu
     let sheets = [
         SHEET,
         // A group of one, nothing to do.
-        "     2     3\n    10     1     1     1\n    10     0     1     1\n    10     1     1     1\n",
+        "     2     3\n     0     0\n    10     1     1     1\n    10     0     1     1\n    10     1     1     1\n",
         // Balance makes more bumps than raises.
-        "     2     2\n    30     0     1     1\n    20     0     2     1     2\n",
+        "     2     2\n     0     0\n    30     0     1     1\n    20     0     2     1     2\n",
         // Balance moves two batches.
         "     3     3
+     0     0     0
     30     1     3     1     2     3
     30           3     1     2     3
     30     1     3     1     2     3
 ",
         // Balance leaves it with a group of two, settle moves two batches.
         "     2     4
+     0     0
      2     2     1     2
      4     1     2     2     1
      5     1     2     2     1
      2     2     2     1     2
 ",
         // Of two batches that gain the second is longer.
-        "     2     2\n     3     1     2     1     2\n     4     1     2     1     2\n",
+        "     2     2\n     0     0\n     3     1     2     1     2\n     4     1     2     1     2\n",
         // Settling moves a batch away and back.
         "     3     4
+     0     0     0
      1     3     1     3
      4     3     2     2     3
      2     2     1     2
      2     3     2     1     3
 ",
-        "     2     0\n",
+        "     2     0\n     0     0\n",
         &SHEET.replace("    20", "  1441"),
         "",
+        // A calibration is bumped in the trial kept.
+        "     3     1\n    10     0    10\n    20     3     3     1     2     3\n",
+        // One is longer than any batch.
+        "     2     2\n    40     7\n    30     1     2     1     2\n     5     2     1     2\n",
+        // They show the floor of a group.
+        "     3     3
+    25    25     0
+    30     1     2     1     2
+    30     2     2     2     1
+    10     1     3     3     2     1
+",
+        "     2     0\n   240   239\n",
+        &SHEET.replace("     0     0", "     0   241"),
     ];
     let mut judge = Judge::new(call);
     for sheet in sheets {
@@ -588,6 +679,55 @@ fn caught<A: Common>(honest: Filer<A>, cheats: impl IntoIterator<Item = Cheat<A>
     for (name, cheat) in cheats {
         let found = verdict(|sheet, moves, written| cheat(honest, sheet, moves, written));
         assert!(found.is_err(), "not caught: {name}");
+    }
+}
+
+/// Ways to count calibrations, of which the first is right. The last three are no
+/// matter of a single call on a file, or have a cheat above.
+fn ways() -> impl Iterator<Item = (usize, (&'static str, Ways))> {
+    WAYS.into_iter().take(9).enumerate()
+}
+
+#[test]
+fn ways_of_balance_are_caught() {
+    for (k, (name, ways)) in ways() {
+        let found = verdict(|sheet, moves, written| {
+            made(sheet, moves, written, |made: &mut Made<Balanced>| {
+                let mut left = sheet_of(sheet);
+                let balanced = astray::balance(&mut left, ways);
+                leave(sheet, made, &left);
+                let group = balanced.group.unwrap_or_default();
+                made.answer.finish = balanced.finish;
+                made.answer.floor = balanced.floor;
+                made.answer.level = balanced.level;
+                (made.answer.raises, made.answer.bumps) = (balanced.raises, balanced.bumps);
+                made.answer.size = group.len();
+                made.answer.group = [0; 24];
+                for (byte, &j) in made.answer.group.iter_mut().zip(&group) {
+                    *byte = j as u8;
+                }
+            })
+        });
+        // The total is for single trials alone.
+        let right = k == 0 || !ways.total;
+        assert_eq!(found.is_ok(), right, "{name}: {found:?}");
+    }
+}
+
+#[test]
+fn ways_of_settle_are_caught() {
+    for (_, (name, ways)) in ways() {
+        let found = verdict(|sheet, moves, written| {
+            made(sheet, moves, written, |made: &mut Made<Settled>| {
+                let mut left = sheet_of(sheet);
+                let settled = astray::settle(&mut left, ways);
+                leave(sheet, made, &left);
+                made.answer.finish = settled.finish;
+                made.answer.moves = settled.moves;
+            })
+        });
+        // Settling goes by the loads alone.
+        assert_eq!(found.is_ok(), ways.loads, "{name}: {found:?}");
     }
 }
 

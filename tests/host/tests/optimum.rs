@@ -15,15 +15,20 @@ fn listing(draft: &Draft) -> Listing {
     Listing::parse(&buffer[..hosted.length as usize]).expect("a listing in its columns")
 }
 
-/// The earliest finish of any permitted plan.
-fn optimum(draft: &Draft, placed: usize, loads: &mut [u32; 25]) -> u32 {
+/// The earliest finish of any permitted plan that calibrates as the sheet does.
+fn optimum(draft: &Draft) -> u32 {
+    least_finish(draft, 0, &mut calibrations(draft))
+}
+
+/// With the first batches placed already, which makes these loads.
+fn least_finish(draft: &Draft, placed: usize, loads: &mut [u32; 25]) -> u32 {
     let Some(line) = draft.lines.get(placed) else {
         return *loads.iter().max().unwrap();
     };
     let mut least = u32::MAX;
     for &j in &line.list {
         loads[j as usize] += line.length;
-        least = least.min(optimum(draft, placed + 1, loads));
+        least = least.min(least_finish(draft, placed + 1, loads));
         loads[j as usize] -= line.length;
     }
     least
@@ -35,9 +40,16 @@ fn place(draft: &Draft, i: usize) -> u32 {
     line.given().unwrap_or(line.list[0])
 }
 
+/// The loads without a batch, by instrument number.
+fn calibrations(draft: &Draft) -> [u32; 25] {
+    let mut loads = [0; 25];
+    loads[1..=draft.calibrations.len()].copy_from_slice(&draft.calibrations);
+    loads
+}
+
 /// Loads by instrument number.
 fn loads(draft: &Draft) -> [u32; 25] {
-    let mut loads = [0; 25];
+    let mut loads = calibrations(draft);
     for (i, line) in draft.lines.iter().enumerate() {
         loads[place(draft, i) as usize] += line.length;
     }
@@ -60,14 +72,18 @@ fn gains(draft: &Draft) -> bool {
     })
 }
 
-fn longest(draft: &Draft) -> u32 {
-    let lengths = draft.lines.iter().map(|line| line.length);
-    lengths.max().unwrap_or(0)
+/// Lengths of batches, and of calibrations, which are 0 where there is none.
+fn lengths(draft: &Draft) -> impl Iterator<Item = u32> + '_ {
+    let batches = draft.lines.iter().map(|line| line.length);
+    batches.chain(draft.calibrations.iter().copied())
 }
 
-/// The greatest number of which every length is a multiple.
-fn divisor(draft: &Draft) -> u32 {
-    let lengths = draft.lines.iter().map(|line| line.length);
+fn longest(draft: &Draft) -> u32 {
+    lengths(draft).max().unwrap()
+}
+
+/// The greatest number of which all of these are multiples.
+fn divisor(lengths: impl Iterator<Item = u32>) -> u32 {
     lengths.fold(0, |mut a, mut b| {
         while b > 0 {
             (a, b) = (b, a % b);
@@ -109,13 +125,15 @@ fn balance_laws(draft: &Draft) -> (Balanced, Draft) {
     assert!(group.iter().all(|j| (1..=draft.instruments).contains(j)));
     let inside = |list: &[u32]| list.iter().all(|j| group.contains(j));
     let confined = draft.lines.iter().filter(|line| inside(&line.list));
-    let minutes: u32 = confined.map(|line| line.length).sum();
+    let batches: u32 = confined.map(|line| line.length).sum();
+    let own = calibrations(draft);
+    let minutes = batches + group.iter().map(|&j| own[j as usize]).sum::<u32>();
     match group.len() as u32 {
         0 => assert_eq!((answer.floor, answer.level), (longest, 0)),
         size => assert_eq!(answer.floor, longest.max(minutes.div_ceil(size))),
     }
     assert!(answer.finish <= answer.level + longest);
-    if !draft.lines.is_empty() {
+    if longest > 0 {
         assert!(answer.finish < answer.floor + longest);
     }
     (answer, after)
@@ -163,14 +181,14 @@ fn compared(draft: &Draft) -> (Balanced, Settled, u32) {
     let (balanced, settled) = plan_laws(draft);
     let (_, rested) = settle_laws(draft);
     let (later, _) = balance_laws(&rested);
-    let optimum = optimum(draft, 0, &mut [0; 25]);
+    let optimum = optimum(draft);
     assert!(optimum <= settled.finish && settled.finish <= balanced.finish);
     for answer in [balanced, later] {
         assert!(answer.floor <= optimum && optimum <= answer.finish);
-        if !draft.lines.is_empty() {
+        if longest(draft) > 0 {
             // Above the best by at most the longest less g, for every g of
             // which all lengths are multiples: so for the greatest one.
-            let latest = optimum + longest(draft) - divisor(draft);
+            let latest = optimum + longest(draft) - divisor(lengths(draft));
             assert!(answer.finish <= latest, "{draft:?}");
         }
     }
@@ -181,18 +199,25 @@ fn compared(draft: &Draft) -> (Balanced, Settled, u32) {
 fn small_sheets() {
     let mut rng = Rng::new(51);
     let (mut best, mut later, mut tight, mut loose, mut empty) = (0, 0, 0, 0, 0);
-    let mut settling = 0;
+    let (mut settling, mut calibrated, mut only) = (0, 0, 0);
     for round in 0..20_000 {
         let shape = Shape {
             instruments: (1, 4),
             batches: (0, 7),
             lengths: [(1, 9), (1, 60), (1, 1440)][round % 3],
+            calibrations: [9, 60, 240][round % 3],
         };
         let draft = gen::draft(&mut rng, shape);
         let (balanced, settled, optimum) = compared(&draft);
+        let above_0 = draft.calibrations.iter().any(|&c| c > 0);
+        calibrated += above_0 as usize;
         if draft.lines.is_empty() {
-            assert_eq!((balanced.finish, balanced.floor), (0, 0));
+            let most = draft.calibrations.iter().copied().max().unwrap();
+            assert_eq!((balanced.finish, balanced.floor), (most, most));
+            assert_eq!((balanced.level, balanced.size), (0, 0));
+            assert_eq!((balanced.raises, balanced.bumps), (0, 0));
             empty += 1;
+            only += above_0 as usize;
             continue;
         }
         match balanced.finish == optimum {
@@ -207,10 +232,12 @@ fn small_sheets() {
     }
     println!(
         "finish: {best} best, {later} later, {settling} earlier by settling; floor: {tight} \
-         tight, {loose} not; {empty} empty"
+         tight, {loose} not; {empty} empty, {only} of them with calibrations; {calibrated} with \
+         calibrations"
     );
-    let counts = [best, later, settling, tight, loose, empty];
+    let counts = [best, later, settling, tight, loose, empty, only];
     assert!(counts.into_iter().all(|count| count >= 200), "{counts:?}");
+    assert!(calibrated >= 8_000);
 }
 
 /// Lengths that are multiples of one number: how often balance is as late as the
@@ -219,15 +246,17 @@ fn small_sheets() {
 fn round_lengths() {
     let mut rng = Rng::new(53);
     for step in [2, 3, 5, 15] {
-        let (mut reached, mut kept, mut earlier) = (0, 0, 0);
+        let (mut reached, mut kept, mut earlier, mut calibrated) = (0, 0, 0, 0);
         for round in 0..10_000 {
             let shape = Shape {
                 instruments: (2, 4),
                 batches: (2, 6),
                 lengths: (1, [2, 2, 3, 1440 / step][round % 4]),
+                calibrations: [2, 2, 3, 240 / step][round % 4],
             };
             let mut draft = gen::draft(&mut rng, shape);
             draft.lines.iter_mut().for_each(|line| line.length *= step);
+            draft.calibrations.iter_mut().for_each(|c| *c *= step);
             let (balanced, settled, optimum) = compared(&draft);
             match longest(&draft) - step {
                 // Equal lengths, which have a test of their own.
@@ -235,38 +264,79 @@ fn round_lengths() {
                 most if balanced.finish == optimum + most => {
                     reached += 1;
                     kept += (settled.finish == balanced.finish) as usize;
+                    calibrated += draft.calibrations.iter().any(|&c| c > 0) as usize;
                 }
                 _ => earlier += 1,
             }
         }
         println!(
             "multiples of {step}: the bound reached {reached} times, {kept} after settling too, \
-             not {earlier} times"
+             {calibrated} with calibrations, not {earlier} times"
         );
-        assert!(reached >= 50 && kept >= 50 && earlier >= 1_000);
+        assert!(reached >= 50 && kept >= 50 && earlier >= 1_000 && calibrated >= 20);
     }
 }
 
-/// Equal lengths: the plan is a best one, also where the floor is below it.
+/// Equal lengths: the plan is a best one, also where the floor is below it. In
+/// every second sheet some calibrations have that length too.
 #[test]
 fn equal_lengths() {
     let mut rng = Rng::new(54);
-    let (mut below, mut improved) = (0, 0);
-    for _ in 0..10_000 {
-        let length = rng.within(1, 1440);
+    let (mut below, mut improved) = ([0; 2], [0; 2]);
+    for round in 0..16_000 {
+        let calibrated = round % 2;
+        let length = rng.within(1, [1440, 240][calibrated]);
         let shape = Shape {
             instruments: (1, 4),
             batches: (1, 7),
             lengths: (length, length),
+            calibrations: 0,
         };
-        let draft = gen::draft(&mut rng, shape);
+        let mut draft = gen::draft(&mut rng, shape);
+        if calibrated == 1 {
+            let own = |minutes: &mut u32| *minutes = *rng.pick(&[0, length]);
+            draft.calibrations.iter_mut().for_each(own);
+        }
         let (balanced, settled, optimum) = compared(&draft);
         assert_eq!((balanced.finish, settled.finish), (optimum, optimum));
-        below += (balanced.floor < optimum) as usize;
-        improved += (optimum < standing(&draft)) as usize;
+        below[calibrated] += (balanced.floor < optimum) as usize;
+        improved[calibrated] += (optimum < standing(&draft)) as usize;
     }
-    println!("equal lengths: all best, {improved} improved, {below} with a floor below");
-    assert!(below >= 1_000 && improved >= 1_000);
+    println!(
+        "equal lengths, without and with calibrations: all best, {improved:?} improved, {below:?} \
+         with a floor below"
+    );
+    assert!(below.into_iter().all(|count| count >= 1_000));
+    assert!(improved.into_iter().all(|count| count >= 1_000));
+}
+
+/// Calibrations count among the lengths: the bounds that the batches alone would
+/// have do not hold, while those with the calibrations do.
+#[test]
+fn calibrations_count_in_the_bounds() {
+    let mut rng = Rng::new(55);
+    let (mut not_best, mut longer) = (0, 0);
+    for round in 0..20_000 {
+        let shape = Shape {
+            instruments: (2, 4),
+            batches: (2, 6),
+            lengths: (1, [1, 3][round % 2]),
+            calibrations: 15,
+        };
+        let mut draft = gen::draft(&mut rng, shape);
+        let step = rng.within(1, 6);
+        draft.lines.iter_mut().for_each(|line| line.length *= step);
+        let (balanced, _, optimum) = compared(&draft);
+        let batches = || draft.lines.iter().map(|line| line.length);
+        let most = batches().max().unwrap();
+        not_best += (batches().all(|length| length == most) && balanced.finish > optimum) as usize;
+        longer += (balanced.finish >= optimum + most) as usize;
+    }
+    println!(
+        "{not_best} plans of batches equally long are no best ones, {longer} are later than the \
+         best by the longest batch or more"
+    );
+    assert!(not_best >= 500 && longer >= 500);
 }
 
 #[test]

@@ -144,7 +144,9 @@ fn refusals() {
         }
     }
     println!("by refusal: {counts:?}");
-    assert!(counts[..=5].iter().all(|&count| count >= 10), "{counts:?}");
+    for refusal in [0, 1, 2, 3, 4, 5, 10] {
+        assert!(counts[refusal] >= 10, "{counts:?}");
+    }
     assert!(counts[19] >= 100, "{counts:?}");
 }
 
@@ -194,7 +196,7 @@ fn limits() {
     assert_eq!(wrote[0].len(), LARGEST_SHEET);
     for more in [1, 2, 100_000] {
         largest.resize(LARGEST_SHEET + more, b'\n');
-        refused(compare(&folder, &largest, journal), b"     1   202\n");
+        refused(compare(&folder, &largest, journal), b"     1   203\n");
     }
 }
 

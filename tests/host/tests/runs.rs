@@ -68,6 +68,7 @@ fn known_answers() {
     let (calls, answers): (Vec<&str>, Vec<&str>) = lines.into_iter().unzip();
     assert_eq!(answer(SHEET, &file(calls)), Ok(file(answers)));
     let group = "     2     3
+     0     0
     10     1     1     1
     10     0     1     1
     10     1     1     1
@@ -86,12 +87,15 @@ fn known_answers() {
     let answers = "     0     0     0     0     0     0     0     0
      0     0           0     0
 ";
-    let empty = answer("     2     0\n", "     7     0\n     8     0\n");
+    let empty = answer(
+        "     2     0\n     0     0\n",
+        "     7     0\n     8     0\n",
+    );
     assert_eq!(empty.unwrap(), answers);
     let answers = "     0  1440  1440     0     0     0     0     0
      0  1440           0     0
 ";
-    let longest = "     1     1\n  1440     0     1     1\n";
+    let longest = "     1     1\n     0\n  1440     0     1     1\n";
     let one = answer(longest, "     7     1\n     8     1\n");
     assert_eq!(one.unwrap(), answers);
 }
@@ -101,6 +105,7 @@ fn known_answers() {
 #[test]
 fn known_records() {
     let unsettled = "     2     4
+     0     0
      2     2     1     2
      4     1     2     2     1
      5     1     2     2     1
@@ -115,6 +120,7 @@ fn known_records() {
     assert_eq!(answer(unsettled, journal).unwrap(), answers);
     // Batch 2 leaves and returns.
     let returning = "     3     4
+     0     0     0
      1     3     1     3
      4     3     2     2     3
      2     2     1     2
@@ -124,6 +130,7 @@ fn known_records() {
     assert_eq!(answer(returning, "     8     4\n").unwrap(), answers);
     // A balance with a record and a group.
     let again = "     2     3
+     0     0
      3     1     2     1     2
      4     1     1     1
      2     1     1     1
@@ -185,10 +192,12 @@ fn known_refusals() {
             let refused = Err((BAD_JOURNAL, line));
             assert_eq!(answer(SHEET), refused, "{start}");
             // No line of the sheet is the one given.
-            assert_eq!(answer("     1     0\n"), refused, "{start}");
+            assert_eq!(answer("     1     0\n     0\n"), refused, "{start}");
             // The sheet comes first.
             let sheet = SHEET.replace("    20", "  1441");
-            assert_eq!(answer(&sheet), Err((3, 3)), "{start}");
+            assert_eq!(answer(&sheet), Err((3, 4)), "{start}");
+            let sheet = SHEET.replace("     0     0", "     0   241");
+            assert_eq!(answer(&sheet), Err((10, 2)), "{start}");
             assert_eq!(answer(""), Err((1, 1)), "{start}");
         }
         assert_eq!(read(journal), Err(line), "{start}");
@@ -313,17 +322,17 @@ fn random_runs() {
         (7, 9),
         (8, 9),
     ] {
-        assert!(seen.calls[kind][refusal] >= 2_000, "{refusal} of {kind}");
+        assert!(seen.calls[kind][refusal] >= 1_900, "{refusal} of {kind}");
     }
     assert_eq!(seen.calls[5][0], seen.gaining + seen.settled);
     assert!(seen.gaining >= 7_000 && seen.settled >= 6_000);
     assert_eq!(seen.calls[7][0], seen.grouped + seen.ungrouped);
-    assert!(seen.grouped >= 5_000 && seen.ungrouped >= 4_500);
+    assert!(seen.grouped >= 5_000 && seen.ungrouped >= 3_000);
     assert!(seen.shifted >= 2_000 && seen.moved >= 2_000);
     assert!(seen.repeated >= 300 && seen.most_records >= 150);
     let trials = &seen.trials;
     assert_eq!(seen.calls[6][0], trials.passed + trials.failed);
-    assert!(trials.passed >= 80_000 && trials.worked >= 30_000);
+    assert!(trials.passed >= 75_000 && trials.worked >= 25_000);
     assert!(trials.failed >= 14_000);
     assert!(trials.partial >= 3_000 && trials.several >= 500);
     assert!(trials.most >= 200_000);
@@ -342,6 +351,7 @@ fn random_runs() {
     assert!(left.blank >= 150_000, "{} blank places", left.blank);
     assert!(left.changed >= 15_000 && left.kept >= 5_000);
     assert!(left.empty >= 2_000 && left.full >= 800);
+    assert!(left.calibrated >= 10_000);
     assert!(left.unordered >= 400_000 && left.elsewhere >= 200_000);
 }
 
@@ -570,11 +580,12 @@ fn which_comes_first() {
     assert!(both >= 3_500);
     for calls in met.calls {
         let empty = |refusal: usize| calls[refusal][0];
-        for refusal in 1..=5 {
+        let of_sheets = [1, 2, 3, 4, 5, 10];
+        for refusal in of_sheets {
             assert!(empty(refusal) >= 400, "refusal {refusal}");
         }
         // With the good journal and with the bad one.
-        assert_eq!((1..=5).map(empty).sum::<usize>(), 2 * both);
+        assert_eq!(of_sheets.map(empty).iter().sum::<usize>(), 2 * both);
         assert!(empty(BAD_JOURNAL as usize) >= 4_000);
         assert!(empty(9) >= 3_000);
     }

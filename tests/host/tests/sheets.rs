@@ -1,6 +1,7 @@
 //! Sheets good, bad and hard, each with every kind of buffer: planned and
 //! rewritten beside the second planner.
 
+use std::collections::BTreeSet;
 use std::sync::atomic::{AtomicUsize, Ordering};
 
 use host::cases::{self, Case};
@@ -27,6 +28,7 @@ fn known_listings() {
 ";
     assert_eq!(answer(SHEET).unwrap(), first);
     let second = "     2     3
+     0     0
     10     1     1     1
     10     0     1     1
     10     1     1     1
@@ -39,15 +41,16 @@ fn known_listings() {
 ";
     assert_eq!(answer(second).unwrap(), listing);
     let empty = "     0     0     0     0     0           0\n     0\n";
-    assert_eq!(answer("     1     0\n").unwrap(), empty);
-    assert_eq!(answer("    24     0\n").unwrap(), empty);
-    let longest = "     1     1\n  1440     0     1     1\n";
+    assert_eq!(answer("     1     0\n     0\n").unwrap(), empty);
+    let most = format!("    24     0\n{}\n", "     0".repeat(24));
+    assert_eq!(answer(&most).unwrap(), empty);
+    let longest = "     1     1\n     0\n  1440     0     1     1\n";
     let listing = "  1440  1440     0     0     0           0\n     0\n     1     1  1440\n";
     assert_eq!(answer(longest).unwrap(), listing);
     // A blank place is the first listed.
     let blank = SHEET.replace("0     1", "0      ");
     assert_eq!(answer(&blank).unwrap(), first);
-    let blank = "     2     1\n    10           2     2     1\n";
+    let blank = "     2     1\n     0     0\n    10           2     2     1\n";
     let listing = "    10    10     0     0     0           0\n     0\n     1     2    10\n";
     assert_eq!(answer(blank).unwrap(), listing);
 }
@@ -55,27 +58,32 @@ fn known_listings() {
 #[test]
 fn known_refusals() {
     let line = "     1     0     1     1\n";
-    let full = format!("     1   200\n{}", line.repeat(200));
+    let full = format!("     1   200\n     0\n{}", line.repeat(200));
     assert_eq!(answer(&full).unwrap().lines().count(), 202);
     for (sheet, refusal) in [
         (String::new(), (1, 1)),
-        (SHEET.replace("    30", "    07"), (1, 2)),
-        (format!("     1   201\n{}", line.repeat(201)), (2, 1)),
+        (SHEET.replace("    30", "    07"), (1, 3)),
+        (
+            format!("     1   201\n     0\n{}", line.repeat(201)),
+            (2, 1),
+        ),
         ("    25     0\n".into(), (2, 1)),
-        (SHEET.replace("    30", "  1441"), (3, 2)),
-        (SHEET.replace("1     1\n", "1     3\n"), (4, 3)),
-        (SHEET.replace("20     1", "20     2"), (5, 3)),
-        (format!("{SHEET} "), (1, 5)),
-        (format!("{full}{line}"), (1, 202)),
-        (format!("{SHEET}{}", "\n".repeat(1 << 20)), (1, 5)),
+        (SHEET.replace("    30", "  1441"), (3, 3)),
+        (SHEET.replace("1     1\n", "1     3\n"), (4, 4)),
+        (SHEET.replace("20     1", "20     2"), (5, 4)),
+        (format!("{SHEET} "), (1, 6)),
+        (format!("{full}{line}"), (1, 203)),
+        (format!("{SHEET}{}", "\n".repeat(1 << 20)), (1, 6)),
         // Blanks in another field than the place.
         ("           0\n".into(), (1, 1)),
         ("     1      \n".into(), (1, 1)),
-        (SHEET.replace("    30", "      "), (1, 2)),
-        (SHEET.replace("20     1     1", "20     1      "), (1, 3)),
-        (SHEET.replace("1     1\n", "1      \n"), (1, 3)),
+        (SHEET.replace("    30", "      "), (1, 3)),
+        (SHEET.replace("20     1     1", "20     1      "), (1, 4)),
+        (SHEET.replace("1     1\n", "1      \n"), (1, 4)),
+        (SHEET.replace("     0     0", "           0"), (1, 2)),
+        (SHEET.replace("     0     0", "     0      "), (1, 2)),
         // Five of them at the end.
-        ("     1     1\n     5     ".into(), (1, 2)),
+        ("     1     1\n     0\n     5     ".into(), (1, 3)),
     ] {
         let start = &sheet[..sheet.len().min(100)];
         assert_eq!(answer(&sheet), Err(refusal), "{start}");
@@ -158,6 +166,7 @@ fn sound_sheets() {
     assert!(plans.blank >= 100_000);
     assert!(plans.none >= 1_000 && plans.some >= 1_000 && plans.all >= 1_000);
     assert!(plans.shown >= 1_000);
+    assert!(plans.calibrated >= 10_000 && plans.only >= 500 && plans.longer >= 2_000);
     assert!(plans.worked >= 1_000 && plans.moved >= 1_000);
     assert!(plans.steps >= 1_000 && plans.moves >= 10);
     assert!(met.same >= 5_000 && met.filled >= 5_000);
@@ -177,7 +186,7 @@ fn damaged_sheets() {
     // Some damage leaves a good sheet, with other numbers in it.
     assert!(met.plans.count >= 500 && met.plans.blank >= 1_000);
     assert!(met.same >= 200 && met.filled >= 200);
-    for number in 1..=5 {
+    for number in [1, 2, 3, 4, 5, 10] {
         assert_eq!(met.planned[number], met.rewritten[number]);
         for count in met.planned[number] {
             assert!(count >= 500, "refusal {number}");
@@ -186,11 +195,14 @@ fn damaged_sheets() {
     for number in [1, 3, 4, 5] {
         assert!(met.lines[number].len() >= 100, "lines of refusal {number}");
     }
+    assert_eq!(met.lines[2], BTreeSet::from([1]));
+    assert_eq!(met.lines[10], BTreeSet::from([2]));
     // A blank place is taken, and hides no other fault of its line.
     for number in [1, 3, 4] {
         assert!(met.at_blank[number] >= 300, "refusal {number} at a blank");
     }
     assert_eq!(met.at_blank[5], 0);
+    assert!(met.plans.calibrated >= 300);
 }
 
 /// The most steps of the trials that planning makes; all but the kept one's

@@ -44,6 +44,7 @@ fn known_sheets() {
         (
             "     1    15     2     2     1\n",
             "     2     4
+     0     0
     30     1     2     1     2
     20     1     1     1
     10     1     2     1     2
@@ -53,6 +54,7 @@ fn known_sheets() {
         (
             "     2     2\n",
             "     2     2
+     0     0
     30     1     2     1     2
     10     1     2     1     2
 ",
@@ -61,6 +63,7 @@ fn known_sheets() {
         (
             "     3     1     1     2\n     3     3     2     2     1\n",
             "     2     3
+     0     0
     30     2     1     2
     20     1     1     1
     10     1     2     2     1
@@ -72,6 +75,7 @@ fn known_sheets() {
              3     1     1     1\n     3     3     2     2     1\n     2     2\n     \
              1     7     2     2     1\n",
             "     2     4
+     0     0
     30     1     1     1
     10     1     2     2     1
   1440     2     1     2
@@ -80,19 +84,21 @@ fn known_sheets() {
         ),
         (
             "     2     1\n     2     1\n     2     1\n",
-            "     2     0\n",
+            "     2     0\n     0     0\n",
         ),
     ] {
         assert_eq!(written(SHEET, journal), due, "{journal}");
     }
     // Places not given are filled in, and lists keep their order.
     let open = "    12     4
+     0     0     0     0     0     0     0     0     0     0     0     0
      5           2    11     2
     40     0     3     3     2     1
      7     2     2    12     2
   1440     9     1     9
 ";
     let filled = "    12     4
+     0     0     0     0     0     0     0     0     0     0     0     0
      5    11     2    11     2
     40     3     3     3     2     1
      7     2     2    12     2
@@ -102,19 +108,36 @@ fn known_sheets() {
     assert_eq!(written(filled, ""), filled);
     let moved = filled.replace("40     3", "40     1");
     assert_eq!(written(open, "     4     2     1\n"), moved);
-    for empty in ["     1     0\n", "    24     0\n"] {
-        assert_eq!(written(empty, ""), empty);
+    for (m, minutes) in [(1, 0), (1, 240), (24, 0), (24, 240)] {
+        let empty = Draft::new(m, &[]).calibrated(&vec![minutes; m as usize]);
+        let empty = String::from_utf8(empty.render()).unwrap();
+        assert_eq!(written(&empty, ""), empty);
         let journal = "     7     0\n     8     0\n     2     1\n";
-        assert_eq!(written(empty, journal), empty);
+        assert_eq!(written(&empty, journal), empty);
     }
+    // Calibrations stay as they are, whatever the calls.
+    let calibrated = SHEET.replace("     0     0", "   240     7");
+    assert_eq!(written(&calibrated, ""), calibrated);
+    let journal = "     2     1\n     1    15     2     2     1\n     4     2     2\n     3     1     1     2\n";
+    let left = "     2     3
+   240     7
+    20     2     1     2
+    10     2     2     1     2
+    15     2     2     2     1
+";
+    assert_eq!(written(&calibrated, journal), left);
+    // The first instrument is calibrated for so long that nothing goes there.
+    assert_eq!(written(left, "     7     3\n     8     3\n"), left);
     // Balance leaves this sheet as it is, and settle does not.
     let unsettled = "     2     4
+     0     0
      2     2     1     2
      4     1     2     2     1
      5     1     2     2     1
      2     2     2     1     2
 ";
     let settled = "     2     4
+     0     0
      2     2     1     2
      4     2     2     2     1
      5     1     2     2     1
@@ -130,7 +153,7 @@ fn known_sheets() {
 fn a_full_sheet() {
     let line = "     1     0     1     1\n";
     let filled = line.replace("1     0", "1     1");
-    let file = |lines: String| format!("     1   200\n{lines}");
+    let file = |lines: String| format!("     1   200\n   240\n{lines}");
     let full = file(line.repeat(200));
     assert_eq!(
         written(&full, "     1     9     1     1\n"),
@@ -148,7 +171,7 @@ fn a_full_sheet() {
 /// as large, by requalifying all of one that is small, balanced and settled.
 #[test]
 fn the_largest() {
-    assert_eq!(LARGEST_SHEET, 32_613);
+    assert_eq!(LARGEST_SHEET, 32_758);
     let mut judge = Judge::new(write);
     let all: Vec<u64> = (1..=24).rev().collect();
     let most: Vec<u32> = (1..=24).rev().collect();

@@ -23,11 +23,13 @@ impl Line {
 #[derive(Clone, Debug, PartialEq, Eq)]
 pub struct Draft {
     pub instruments: u32,
+    pub calibrations: Vec<u32>,
     pub lines: Vec<Line>,
 }
 
 impl Draft {
-    /// Lines by length, place and list, every place as a number.
+    /// Lines by length, place and list, every place as a number, and every
+    /// calibration 0.
     pub fn new(instruments: u32, lines: &[(u32, u32, &[u32])]) -> Draft {
         let line = |&(length, place, list): &(u32, u32, &[u32])| Line {
             length,
@@ -36,8 +38,15 @@ impl Draft {
         };
         Draft {
             instruments,
+            calibrations: vec![0; instruments as usize],
             lines: lines.iter().map(line).collect(),
         }
+    }
+
+    /// The same with these calibrations.
+    pub fn calibrated(mut self, calibrations: &[u32]) -> Draft {
+        self.calibrations = calibrations.to_vec();
+        self
     }
 
     /// The same with every place left blank.
@@ -53,6 +62,8 @@ impl Draft {
         let mut out = Vec::new();
         let batches = self.lines.len() as u32;
         put_line(&mut out, &[Some(self.instruments), Some(batches)]);
+        let calibrations: Vec<Option<u32>> = self.calibrations.iter().copied().map(Some).collect();
+        put_line(&mut out, &calibrations);
         for line in &self.lines {
             let count = line.list.len() as u32;
             let mut fields = vec![Some(line.length), line.place, Some(count)];
@@ -65,7 +76,8 @@ impl Draft {
     /// The sheet that reading the bytes must give, made by edits instead.
     /// Panics on a draft with a fault.
     pub fn sheet(&self) -> Sheet {
-        let mut sheet = Sheet::empty(self.instruments).expect("instruments in range");
+        let mut sheet = Sheet::calibrated(&self.calibrations).expect("a sound line 2");
+        assert_eq!(sheet.instruments(), self.instruments);
         for (i, line) in self.lines.iter().enumerate() {
             let list: Vec<u64> = line.list.iter().map(|&j| j as u64).collect();
             sheet.add(line.length as u64, &list).expect("a sound line");
@@ -84,6 +96,7 @@ impl From<&Sheet> for Draft {
     fn from(sheet: &Sheet) -> Draft {
         Draft {
             instruments: sheet.instruments(),
+            calibrations: sheet.calibrations().to_vec(),
             lines: sheet
                 .batches()
                 .iter()

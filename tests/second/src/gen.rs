@@ -11,6 +11,18 @@ pub struct Shape {
     pub instruments: (u32, u32),
     pub batches: (u32, u32),
     pub lengths: (u32, u32),
+    /// The longest calibration; with 0 none is drawn.
+    pub calibrations: u32,
+}
+
+impl Shape {
+    /// The same without calibrations.
+    pub fn uncalibrated(self) -> Shape {
+        Shape {
+            calibrations: 0,
+            ..self
+        }
+    }
 }
 
 /// Few enough plans to look at all of them.
@@ -18,6 +30,7 @@ pub const SMALL: Shape = Shape {
     instruments: (1, 4),
     batches: (0, 6),
     lengths: (1, 9),
+    calibrations: 9,
 };
 
 /// Large enough for long chains, small enough to watch every step.
@@ -25,6 +38,7 @@ pub const MEDIUM: Shape = Shape {
     instruments: (1, 9),
     batches: (0, 30),
     lengths: (1, 60),
+    calibrations: 60,
 };
 
 /// Anything within the limits.
@@ -32,6 +46,7 @@ pub const FULL: Shape = Shape {
     instruments: (1, 24),
     batches: (0, 200),
     lengths: (1, 1440),
+    calibrations: Sheet::CALIBRATION,
 };
 
 /// As large as the limits allow.
@@ -39,6 +54,7 @@ pub const LARGE: Shape = Shape {
     instruments: (24, 24),
     batches: (200, 200),
     lengths: (1, 1440),
+    calibrations: Sheet::CALIBRATION,
 };
 
 /// A sound list of instruments, in any order.
@@ -49,7 +65,24 @@ pub fn list(rng: &mut Rng, m: u32, count: u32) -> Vec<u32> {
     all
 }
 
-/// A sound draft: how lists, lengths and places lean differs from one to the next.
+/// Calibrations of up to so many minutes: all 0, all the longest, or some.
+pub fn calibrations(rng: &mut Rng, m: u32, longest: u32) -> Vec<u32> {
+    if longest == 0 {
+        return vec![0; m as usize];
+    }
+    let kind = rng.below(6);
+    let some = (0..m).map(|_| match kind {
+        0 | 1 => 0,
+        2 => longest,
+        3 if !rng.once_in(3) => 0,
+        4 if rng.once_in(2) => *rng.pick(&[0, longest]),
+        _ => rng.within(0, longest),
+    });
+    some.collect()
+}
+
+/// A sound draft: how lists, lengths, places and calibrations lean differs from
+/// one to the next.
 pub fn draft(rng: &mut Rng, shape: Shape) -> Draft {
     let m = rng.within(shape.instruments.0, shape.instruments.1);
     let n = rng.within(shape.batches.0, shape.batches.1);
@@ -87,9 +120,11 @@ pub fn draft(rng: &mut Rng, shape: Shape) -> Draft {
             list,
         }
     });
+    let lines = lines.collect();
     Draft {
         instruments: m,
-        lines: lines.collect(),
+        calibrations: calibrations(rng, m, shape.calibrations),
+        lines,
     }
 }
 
@@ -99,8 +134,8 @@ pub fn sheet(rng: &mut Rng, shape: Shape) -> Sheet {
 }
 
 /// Numbers that sit at the edges of what a file may hold.
-const EDGES: [u32; 16] = [
-    0, 1, 2, 3, 7, 23, 24, 25, 199, 200, 201, 1439, 1440, 1441, 100_000, 999_999,
+const EDGES: [u32; 19] = [
+    0, 1, 2, 3, 7, 23, 24, 25, 199, 200, 201, 239, 240, 241, 1439, 1440, 1441, 100_000, 999_999,
 ];
 
 /// Spoil a file in one place. Now and then the result is still sound.
@@ -159,11 +194,11 @@ pub fn fields(file: &[u8]) -> Vec<usize> {
     starts
 }
 
-/// Where the places start in a sheet's file that does so: one field after the
-/// LF of the line before.
+/// Where the places start in a sheet's file that does so: from line 3 on, one
+/// field after the LF of the line before.
 pub fn places(file: &[u8]) -> Vec<usize> {
     let line_ends = (0..file.len()).filter(|&at| file[at] == b'\n');
-    let starts = line_ends.map(|at| at + 7);
+    let starts = line_ends.skip(1).map(|at| at + 7);
     starts.filter(|at| at + 6 <= file.len()).collect()
 }
 
@@ -312,7 +347,28 @@ pub fn hard(seed: u64) -> Sheet {
     }
     Draft {
         instruments: m,
+        calibrations: vec![0; m as usize],
         lines,
     }
     .sheet()
+}
+
+/// The same with calibrations in the stead of the batches that cannot leave. To
+/// reach a calibration an instrument must first bump off all else.
+pub fn hard_calibrated(seed: u64) -> Sheet {
+    let mut rng = Rng::new(seed);
+    let m = Sheet::INSTRUMENTS;
+    let open: Vec<u32> = (1..m).collect();
+    let long = rng.within(Sheet::CALIBRATION - 10, Sheet::CALIBRATION);
+    let free = rng.within(8, 12) as usize;
+    let mut calibrations = vec![long; m as usize];
+    for minutes in &mut calibrations {
+        if rng.once_in(4) {
+            *minutes -= rng.within(0, long / 4);
+        }
+    }
+    calibrations[m as usize - 1] = 0;
+    let mut lines = vec![(1, 1, open.as_slice()); Sheet::BATCHES - free];
+    lines.extend(vec![(long, 1, open.as_slice()); free]);
+    Draft::new(m, &lines).calibrated(&calibrations).sheet()
 }

@@ -1,10 +1,10 @@
 //! Planning (document 01, "Planning"): balance, and settling after it (document
-//! 02, C-14).
+//! 02, C-14). Finish, longest and what is confined count calibrations (C-16).
 
 use crate::moves::{judge_entries, records, Move};
 use crate::settle::settle;
 use crate::sheet::{Refusal, Sheet};
-use crate::trial::{trial, Verdict};
+use crate::trial::{attempt, Verdict};
 
 /// What balancing comes to.
 #[derive(Clone, Debug, PartialEq, Eq)]
@@ -28,10 +28,12 @@ pub fn balance(sheet: &mut Sheet, entries: u64) -> Result<Balanced, Refusal> {
     let mut p = sheet.finish() as i64;
     let (mut places, mut raises, mut bumps) = (sheet.places(), 0, 0);
     let mut group = None;
+    let items = sheet.items();
     while p - f > 1 {
-        // At least 0, so that halving rounds down.
+        // At least 0, so that halving rounds down; and no load is above the
+        // total, so that none is refused.
         let level = (f + p) / 2;
-        let answer = trial(sheet, level as u64).expect("no load is above the total");
+        let answer = attempt(sheet, &items, level as u32);
         match answer.verdict {
             Verdict::Pass(placement) => {
                 p = level;

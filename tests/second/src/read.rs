@@ -1,5 +1,6 @@
 //! From a file's bytes to a sheet (document 01, "The sheet"; document 02, C-11
-//! for a place left blank): from the front, and the first fault decides.
+//! for a place left blank, C-16 for line 2): from the front, and the first fault
+//! decides.
 
 use crate::sheet::{Batch, Refusal, Sheet};
 
@@ -15,15 +16,17 @@ pub fn read(bytes: &[u8]) -> Result<Sheet, Fault> {
     let fault = |line| move |refusal| Fault { refusal, line };
     let mut rest = bytes;
     let (m, n) = head(&mut rest).map_err(fault(1))?;
+    let calibrations = calibrations(&mut rest, m).map_err(fault(2))?;
     let mut batches = Vec::new();
-    for line in 2..n + 2 {
+    for line in 3..n + 3 {
         batches.push(batch(&mut rest, m).map_err(fault(line))?);
     }
     if !rest.is_empty() {
-        return Err(fault(n + 2)(Refusal::Form));
+        return Err(fault(n + 3)(Refusal::Form));
     }
     Ok(Sheet {
         instruments: m,
+        calibrations,
         batches,
     })
 }
@@ -40,6 +43,20 @@ fn head(rest: &mut &[u8]) -> Result<(u32, u32), Refusal> {
     }
     line_end(rest)?;
     Ok((m, n))
+}
+
+/// Line 2: a calibration for each of `m` instruments.
+fn calibrations(rest: &mut &[u8], m: u32) -> Result<Vec<u32>, Refusal> {
+    let mut calibrations = Vec::new();
+    for _ in 0..m {
+        let minutes = number(rest)?;
+        if minutes > Sheet::CALIBRATION {
+            return Err(Refusal::Calibration);
+        }
+        calibrations.push(minutes);
+    }
+    line_end(rest)?;
+    Ok(calibrations)
 }
 
 /// A batch's line, on a sheet of `m` instruments. A number is judged before

@@ -1,5 +1,6 @@
 //! Who gains, review, and settling (document 01, "Loads and settling"; document
-//! 02, C-14 for settling as a call).
+//! 02, C-14 for settling as a call). Calibrations are in the loads; as batches
+//! they would have nowhere else to go, so none ever gains or moves.
 
 use std::cmp::Reverse;
 

@@ -1,6 +1,7 @@
-//! The sheet and its edits (document 01, "The sheet" and "Refusals").
+//! The sheet and its edits (document 01, "The sheet" and "Refusals"; document 02,
+//! C-16 for calibrations).
 
-/// Why a call is refused; the discriminant is document 01's number.
+/// Why a call is refused; the discriminant is the documents' number.
 #[derive(Clone, Copy, Debug, PartialEq, Eq)]
 pub enum Refusal {
     /// The bytes are not of the form: a field, a line end, too few or too many.
@@ -22,6 +23,8 @@ pub enum Refusal {
     /// What the host lends is too short: a buffer for its text, or a list for
     /// the records of moves.
     Buffer = 9,
+    /// Calibration out of range.
+    Calibration = 10,
 }
 
 impl Refusal {
@@ -39,11 +42,13 @@ pub struct Batch {
     pub place: u32,
 }
 
-/// Instruments and batches, within the limits, every batch on an instrument
-/// of its list.
+/// Instruments with their calibrations, and batches, within the limits, every
+/// batch on an instrument of its list.
 #[derive(Clone, Debug, PartialEq, Eq)]
 pub struct Sheet {
     pub(crate) instruments: u32,
+    /// Minutes of each instrument's calibration, 0 for none.
+    pub(crate) calibrations: Vec<u32>,
     pub(crate) batches: Vec<Batch>,
 }
 
@@ -56,20 +61,37 @@ impl Sheet {
     pub const INSTRUMENTS: u32 = 24;
     pub const BATCHES: usize = 200;
     pub const LENGTH: u32 = 1440;
+    pub const CALIBRATION: u32 = 240;
 
-    /// A sheet of `m` instruments without a batch.
+    /// A sheet of `m` instruments without a calibration or a batch.
     pub fn empty(m: u32) -> Result<Sheet, Refusal> {
         if !(1..=Self::INSTRUMENTS).contains(&m) {
             return Err(Refusal::Size);
         }
         Ok(Sheet {
             instruments: m,
+            calibrations: vec![0; m as usize],
             batches: Vec::new(),
         })
     }
 
+    /// A sheet without a batch whose instruments have these calibrations.
+    pub fn calibrated(calibrations: &[u32]) -> Result<Sheet, Refusal> {
+        let mut sheet = Sheet::empty(calibrations.len() as u32)?;
+        if calibrations.iter().any(|&c| c > Self::CALIBRATION) {
+            return Err(Refusal::Calibration);
+        }
+        sheet.calibrations = calibrations.to_vec();
+        Ok(sheet)
+    }
+
     pub fn instruments(&self) -> u32 {
         self.instruments
+    }
+
+    /// Instrument number j has the entry j - 1.
+    pub fn calibrations(&self) -> &[u32] {
+        &self.calibrations
     }
 
     /// Batch number i is the entry i - 1.
@@ -77,22 +99,39 @@ impl Sheet {
         &self.batches
     }
 
+    /// All that takes time: the batches, and after them the calibrations above
+    /// 0, by instrument, each as a batch qualified only where it stands.
+    pub fn items(&self) -> Vec<Batch> {
+        let mut items = self.batches.clone();
+        for (&length, j) in self.calibrations.iter().zip(1..) {
+            if length > 0 {
+                items.push(Batch {
+                    length,
+                    list: vec![j],
+                    place: j,
+                });
+            }
+        }
+        items
+    }
+
+    /// The lengths of the batches, and of the calibrations, 0 where there is none.
+    fn lengths(&self) -> impl Iterator<Item = u32> + '_ {
+        let batches = self.batches.iter().map(|b| b.length);
+        batches.chain(self.calibrations.iter().copied())
+    }
+
     /// All minutes.
     pub fn total(&self) -> u32 {
-        self.batches.iter().map(|b| b.length).sum()
+        self.lengths().sum()
     }
 
     pub fn longest(&self) -> u32 {
-        self.batches.iter().map(|b| b.length).max().unwrap_or(0)
-    }
-
-    /// The summed lengths of the qualified lists.
-    pub fn listed(&self) -> usize {
-        self.batches.iter().map(|b| b.list.len()).sum()
+        self.lengths().max().unwrap_or(0)
     }
 
     pub fn loads(&self) -> Vec<u32> {
-        let mut loads = vec![0; self.instruments as usize];
+        let mut loads = self.calibrations.clone();
         for batch in &self.batches {
             loads[at(batch.place)] += batch.length;
         }
@@ -104,14 +143,18 @@ impl Sheet {
         self.loads().into_iter().max().unwrap_or(0)
     }
 
+    /// Where the batches are.
     pub fn places(&self) -> Vec<u32> {
         self.batches.iter().map(|b| b.place).collect()
     }
 
-    /// Minutes of the batches whose whole list lies in the group.
+    /// Minutes of the batches whose whole list lies in the group, and of the
+    /// calibrations in it.
     pub fn confined(&self, group: &[u32]) -> u32 {
         let inside = |b: &&Batch| b.list.iter().all(|j| group.contains(j));
-        self.batches.iter().filter(inside).map(|b| b.length).sum()
+        let batches = self.batches.iter().filter(inside).map(|b| b.length);
+        let calibrations = group.iter().map(|&j| self.calibrations[at(j)]);
+        batches.chain(calibrations).sum()
     }
 
     /// Add a batch, on the first listed instrument.

@@ -1,6 +1,7 @@
-//! One trial at a level, act by act (document 01, "One trial at a level").
+//! One trial at a level, act by act (document 01, "One trial at a level"; document
+//! 02, C-16: calibrations take part as batches).
 
-use crate::sheet::{at, Refusal, Sheet};
+use crate::sheet::{at, Batch, Refusal, Sheet};
 
 #[derive(Clone, Debug, PartialEq, Eq)]
 pub struct Trial {
@@ -11,7 +12,7 @@ pub struct Trial {
 
 #[derive(Clone, Debug, PartialEq, Eq)]
 pub enum Verdict {
-    /// The placement, in batch order.
+    /// The placement of the sheet's own batches, in their order.
     Pass(Vec<u32>),
     /// The group, ascending.
     Fail(Vec<u32>),
@@ -22,15 +23,20 @@ pub fn trial(sheet: &Sheet, level: u64) -> Result<Trial, Refusal> {
     if level > sheet.total() as u64 {
         return Err(Refusal::Level);
     }
-    let mut state = State::start(sheet, level as u32);
+    Ok(attempt(sheet, &sheet.items(), level as u32))
+}
+
+/// The trial itself, with the sheet's items.
+pub(crate) fn attempt(sheet: &Sheet, items: &[Batch], level: u32) -> Trial {
+    let mut state = State::start(sheet, items, level);
     while let Some(act) = state.next() {
         state.make(act);
     }
-    Ok(state.answer())
+    state.answer()
 }
 
-/// What an item does. Batches go by their index, from 0, instruments by their
-/// number, from 1.
+/// What is done. Batches, calibrations after the sheet's own, go by their index,
+/// from 0, instruments by their number, from 1.
 #[derive(Clone, Copy, Debug, PartialEq, Eq)]
 pub enum Act {
     /// An instrument bumps: the batch has no place then.
@@ -57,6 +63,8 @@ pub enum Act {
 #[derive(Clone, Debug, PartialEq, Eq)]
 pub struct State<'a> {
     pub sheet: &'a Sheet,
+    /// The sheet's items: every one is a batch here.
+    pub items: &'a [Batch],
     pub level: u32,
     pub longest: u32,
     pub batch_heights: Vec<u32>,
@@ -76,14 +84,15 @@ fn raised(height: u32, ends: impl Iterator<Item = u32>) -> Option<u32> {
 }
 
 impl<'a> State<'a> {
-    pub fn start(sheet: &'a Sheet, level: u32) -> State<'a> {
+    pub fn start(sheet: &'a Sheet, items: &'a [Batch], level: u32) -> State<'a> {
         State {
             sheet,
+            items,
             level,
             longest: sheet.longest(),
-            batch_heights: vec![0; sheet.batches.len()],
+            batch_heights: vec![0; items.len()],
             instrument_heights: vec![0; sheet.instruments as usize],
-            places: sheet.places(),
+            places: items.iter().map(|b| b.place).collect(),
             loads: sheet.loads(),
             raises: 0,
             bumps: 0,
@@ -116,7 +125,7 @@ impl<'a> State<'a> {
     /// What a batch without a place does: bump if able, else raise.
     fn batch_act(&self, batch: usize) -> Option<Act> {
         let height = self.batch_heights[batch];
-        let list = self.sheet.batches[batch].list.iter();
+        let list = self.items[batch].list.iter();
         let ends = list.filter(|&&j| j != self.places[batch]);
         let ends = ends.map(|&j| (j, self.instrument_heights[at(j)]));
         // The list is in any order.
@@ -153,12 +162,12 @@ impl<'a> State<'a> {
         match act {
             Act::Unplace { instrument, batch } => {
                 self.places[batch] = 0;
-                self.loads[at(instrument)] -= self.sheet.batches[batch].length;
+                self.loads[at(instrument)] -= self.items[batch].length;
                 self.bumps += 1;
             }
             Act::Place { batch, instrument } => {
                 self.places[batch] = instrument;
-                self.loads[at(instrument)] += self.sheet.batches[batch].length;
+                self.loads[at(instrument)] += self.items[batch].length;
                 self.bumps += 1;
             }
             Act::RaiseBatch { batch, height } => {
@@ -172,16 +181,20 @@ impl<'a> State<'a> {
         }
     }
 
-    /// The answer at the end.
-    pub fn answer(self) -> Trial {
+    /// The answer at the end. Where the calibrations are is not said: they are
+    /// where they were.
+    pub fn answer(mut self) -> Trial {
         let overflows = self.places.contains(&0) || self.instruments().any(|j| self.over(j));
+        let verdict = if overflows {
+            Verdict::Fail(self.group())
+        } else {
+            self.places.truncate(self.sheet.batches.len());
+            Verdict::Pass(self.places)
+        };
         Trial {
+            verdict,
             raises: self.raises,
             bumps: self.bumps,
-            verdict: match overflows {
-                true => Verdict::Fail(self.group()),
-                false => Verdict::Pass(self.places),
-            },
         }
     }
 
@@ -194,7 +207,7 @@ impl<'a> State<'a> {
         let over = self.instruments().find(|&j| self.over(j));
         let mut group = vec![over.expect("no batch is left without a place")];
         loop {
-            let placed = self.sheet.batches.iter().zip(&self.places);
+            let placed = self.items.iter().zip(&self.places);
             let inside = placed.filter(|(_, place)| group.contains(place));
             let reached: Vec<u32> = inside.flat_map(|(b, _)| b.list.iter().copied()).collect();
             let size = group.len();

@@ -3,6 +3,7 @@
 use second::*;
 
 const P1: &[u8] = b"     2     3
+     0     0
     30     1     2     1     2
     20     1     1     1
     10     1     2     1     2
@@ -205,10 +206,12 @@ fn p9_zeros() {
     assert_eq!(refused(b"     1    07\n"), (1, 1));
     assert_eq!(refused(b"     1    00\n"), (1, 1));
     assert_eq!(refused(b"     1000000\n"), (1, 1));
-    assert!(read(b"     1     0\n").is_ok());
-    let line = b"     1     1\n     5    00     1     1\n";
-    assert_eq!(refused(line), (1, 2));
-    let line = b"     1     1\n     5     0     1     1\n";
+    assert!(read(b"     1     0\n     0\n").is_ok());
+    assert_eq!(refused(b"     1     0\n    07\n"), (1, 2));
+    assert_eq!(refused(b"     1     0\n    00\n"), (1, 2));
+    let line = b"     1     1\n     0\n     5    00     1     1\n";
+    assert_eq!(refused(line), (1, 3));
+    let line = b"     1     1\n     0\n     5     0     1     1\n";
     assert_eq!(read(line).unwrap().places(), [1]);
 }
 
@@ -232,12 +235,13 @@ fn a_blank_place_is_place_0() {
         ("     5     0     2     3     1\n", 3),
         ("     5     1     2     3     1\n", 1),
     ] {
-        let file = format!("     3     1\n{line}");
+        let file = format!("     3     1\n     0     0     0\n{line}");
         let sheet = read(file.as_bytes()).unwrap();
         assert_eq!(sheet.places(), [place], "{line:?}");
     }
     // Each line by itself.
     let file = b"     3     3
+     0     0     0
      5           2     3     1
      6     1     2     3     1
      7     0     2     2     1
@@ -251,21 +255,30 @@ fn a_blank_is_refused_elsewhere() {
     for (file, line) in [
         ("           0\n", 1),
         ("     1      \n", 1),
-        ("     1     1\n           1     1     1\n", 2),
-        ("     1     1\n     5     1           1\n", 2),
-        ("     1     1\n     5                 1\n", 2),
-        ("     1     1\n     5     1     1      \n", 2),
-        ("     1     1\n     5           1      \n", 2),
-        ("     2     1\n     5     1     2           1\n", 2),
-        ("     2     1\n     5     1     2     1      \n", 2),
+        ("     1     0\n      \n", 2),
+        ("     2     0\n           0\n", 2),
+        ("     2     0\n   240      \n", 2),
+        ("     1     1\n     0\n           1     1     1\n", 3),
+        ("     1     1\n     0\n     5     1           1\n", 3),
+        ("     1     1\n     0\n     5                 1\n", 3),
+        ("     1     1\n     0\n     5     1     1      \n", 3),
+        ("     1     1\n     0\n     5           1      \n", 3),
         (
-            "     1     2\n     5           1     1\n           1     1     1\n",
+            "     2     1\n     0     0\n     5     1     2           1\n",
             3,
         ),
+        (
+            "     2     1\n     0     0\n     5     1     2     1      \n",
+            3,
+        ),
+        (
+            "     1     2\n     0\n     5           1     1\n           1     1     1\n",
+            4,
+        ),
         // Five blanks are no place, and after six the count is still due.
-        ("     1     1\n     5     ", 2),
-        ("     1     1\n     5      ", 2),
-        ("     1     1\n     5          1     1\n", 2),
+        ("     1     1\n     0\n     5     ", 3),
+        ("     1     1\n     0\n     5      ", 3),
+        ("     1     1\n     0\n     5          1     1\n", 3),
     ] {
         assert_eq!(refused(file.as_bytes()), (1, line), "{file:?}");
     }
@@ -274,9 +287,9 @@ fn a_blank_is_refused_elsewhere() {
 #[test]
 fn p10_longest_length() {
     assert!(read(&Draft::new(1, &[(1440, 0, &[1])]).render()).is_ok());
-    assert_eq!(refused(&Draft::new(1, &[(1441, 0, &[1])]).render()), (3, 2));
+    assert_eq!(refused(&Draft::new(1, &[(1441, 0, &[1])]).render()), (3, 3));
     assert!(read(&Draft::new(1, &[(1, 0, &[1])]).render()).is_ok());
-    assert_eq!(refused(&Draft::new(1, &[(0, 0, &[1])]).render()), (3, 2));
+    assert_eq!(refused(&Draft::new(1, &[(0, 0, &[1])]).render()), (3, 3));
 }
 
 fn ones(n: usize) -> Draft {
@@ -450,32 +463,32 @@ fn files() {
     let text = std::str::from_utf8(P1).unwrap();
     let after = text.replace("30     1", "30     2");
     let unused = went(7, 8, 9);
-    for (entries, room) in [(3, 100), (4, 100), (3, 101), (200, 1_000)] {
+    for (entries, room) in [(3, 113), (4, 113), (3, 114), (200, 1_000)] {
         let (mut moves, mut buffer) = (vec![unused; entries], vec![b'#'; room]);
         let (settled, length) = settle_file(P1, &mut moves, &mut buffer).unwrap();
-        assert_eq!((settled.finish, settled.moves, length), (30, 1, 100));
+        assert_eq!((settled.finish, settled.moves, length), (30, 1, 113));
         assert_eq!(
             (moves[0], &settled.records[..]),
             (went(1, 1, 2), &moves[..1])
         );
         assert!(moves[1..].iter().all(|&entry| entry == unused));
-        assert_eq!(&buffer[..100], after.as_bytes());
-        assert!(buffer[100..].iter().all(|&b| b == b'#'));
+        assert_eq!(&buffer[..113], after.as_bytes());
+        assert!(buffer[113..].iter().all(|&b| b == b'#'));
 
         let (mut others, mut second) = (vec![unused; entries], vec![b'#'; room]);
         let (balanced, length) = balance_file(P1, &mut others, &mut second).unwrap();
         let numbers = (balanced.finish, balanced.floor, balanced.raises);
-        assert_eq!((numbers, length), ((30, 30, 2), 100));
+        assert_eq!((numbers, length), ((30, 30, 2), 113));
         assert_eq!((others, second), (moves, buffer));
     }
     let bad = text.replace("    20", "  1441");
     let empty: &[u8] = b"";
     for (file, entries, room, refusal, line) in [
         (P1, 2, 1_000, 9, 0),
-        (P1, 200, 99, 9, 0),
+        (P1, 200, 112, 9, 0),
         (P1, 0, 0, 9, 0),
-        (bad.as_bytes(), 200, 1_000, 3, 3),
-        (bad.as_bytes(), 2, 0, 3, 3),
+        (bad.as_bytes(), 200, 1_000, 3, 4),
+        (bad.as_bytes(), 2, 0, 3, 4),
         (empty, 0, 0, 1, 1),
     ] {
         let (mut moves, mut buffer) = (vec![unused; entries], vec![b'#'; room]);
@@ -488,8 +501,9 @@ fn files() {
     }
     // Without a batch no entry is needed.
     let none = b"     2     0
+     0    15
 ";
-    let mut buffer = [b'#'; 13];
+    let mut buffer = [b'#'; 26];
     assert!(settle_file(none, &mut [], &mut buffer).is_ok());
     assert_eq!(buffer, *none);
 }
@@ -525,9 +539,13 @@ fn limits_of_an_empty_sheet() {
 fn written_sheets() {
     let written = |sheet: &Sheet| String::from_utf8(write(sheet)).unwrap();
     assert_eq!(write(&read(P1).unwrap()), P1);
-    assert_eq!(written(&Sheet::empty(24).unwrap()), "    24     0\n");
+    assert_eq!(
+        written(&Sheet::empty(24).unwrap()),
+        format!("    24     0\n{}\n", "     0".repeat(24))
+    );
     // Places not given are the first listed, and lists keep their order.
     let file = b"    12     4
+     0     0     0     0     0     0     0     0     0     0     0     0
      5           2    11     2
     40     0     3     3     2     1
      7     2     2    12     2
@@ -535,6 +553,7 @@ fn written_sheets() {
 ";
     let mut sheet = read(file).unwrap();
     let text = "    12     4
+     0     0     0     0     0     0     0     0     0     0     0     0
      5    11     2    11     2
     40     3     3     3     2     1
      7     2     2    12     2
@@ -546,6 +565,7 @@ fn written_sheets() {
     sheet.requalify(3, &[10, 8]).unwrap();
     sheet.add(100, &[6, 12]).unwrap();
     let text = "    12     4
+     0     0     0     0     0     0     0     0     0     0     0     0
     40     1     3     3     2     1
      7     2     2    12     2
   1440    10     2    10     8
@@ -555,6 +575,7 @@ fn written_sheets() {
     let mut sheet = read(P1).unwrap();
     plan(&mut sheet);
     let text = "     2     3
+     0     0
     30     2     2     1     2
     20     1     1     1
     10     1     2     1     2

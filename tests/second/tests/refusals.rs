@@ -56,6 +56,9 @@ fn some_drafts() -> Vec<Draft> {
     drafts.push(Draft::new(1, &[]));
     let last = Draft::new(24, &[(1440, 24, &[24, 1, 2]), (1, 0, &[3])]);
     drafts.push(last.clone().without_places());
+    let most = [Sheet::CALIBRATION; 24];
+    drafts.push(Draft::new(24, &[]).calibrated(&most));
+    drafts.push(last.clone().calibrated(&most));
     drafts.push(last);
     drafts
 }
@@ -174,7 +177,7 @@ fn bytes_left_over() {
     for draft in some_drafts() {
         for end in ends {
             let file = [&draft.render(), end].concat();
-            assert_eq!(refused(&file), (1, draft.lines.len() as u32 + 2));
+            assert_eq!(refused(&file), (1, draft.lines.len() as u32 + 3));
         }
     }
 }
@@ -194,20 +197,117 @@ fn size_out_of_range() {
                 assert_eq!(refused(file.as_bytes()), (2, 1));
             }
         }
-        for n in [1, 2, 199, 200] {
+        for n in [0, 1, 2, 199, 200] {
             let file = six(m) + &six(n) + "\n";
             assert_eq!(refused(file.as_bytes()), (1, 2));
             let file = six(m) + &six(n);
             assert_eq!(refused(file.as_bytes()), (1, 1));
         }
+        for n in [1, 2, 199, 200] {
+            let file = six(m) + &six(n) + "\n" + &zeros(m);
+            assert_eq!(refused(file.as_bytes()), (1, 3));
+        }
     }
+}
+
+/// A calibration is judged at its own field: what comes before it on line 2 must
+/// be good, and nothing after it matters any more.
+#[test]
+fn calibration_out_of_range() {
+    for m in [1, 2, 3, 23, 24] {
+        for k in 0..m {
+            let before = six(m) + &six(1) + "\n" + &six(240).repeat(k as usize);
+            for minutes in [241, 242, 256, 257, 496, 1440, 65_536, 65_776, 999_999] {
+                for rest in ["", "\n", "x", "     0", "    07", "   241\n", "      \n"] {
+                    let file = before.clone() + &six(minutes) + rest;
+                    assert_eq!(refused(file.as_bytes()), (10, 2));
+                }
+            }
+            for bad in ["      ", "   0 1", "   -01", "   24x", "    240", "024000"] {
+                let file = before.clone() + bad + &six(241).repeat(m as usize) + "\n";
+                assert_eq!(refused(file.as_bytes()), (1, 2), "{bad:?}");
+            }
+        }
+        // One too few or too many: the LF, or its lack, is what shows.
+        let batch = "     7     1     1     1\n";
+        for count in [m - 1, m + 1] {
+            let line = six(240).repeat(count as usize) + "\n";
+            let file = six(m) + &six(1) + "\n" + &line + batch;
+            assert_eq!(refused(file.as_bytes()), (1, 2));
+        }
+        // Before any fault of a batch, and after those of line 1.
+        let good = six(m) + &six(1) + "\n" + &six(240).repeat(m as usize) + "\n";
+        assert!(read((good.clone() + batch).as_bytes()).is_ok());
+        for file in [
+            good.replacen("240", "241", 1) + &batch.replace('7', "0"),
+            good.replacen("240", "241", 1),
+        ] {
+            assert_eq!(refused(file.as_bytes()), (10, 2));
+        }
+        let spoilt = good
+            .replacen("240", "241", 1)
+            .replacen("     1\n", "   201\n", 1);
+        assert_eq!(refused(spoilt.as_bytes()), (2, 1));
+    }
+}
+
+/// A file of the form without line 2 has the first batch's line there: what is
+/// read as calibrations decides, or else the LF. Without a batch it ends too soon.
+#[test]
+fn files_without_line_2() {
+    let head = |m: u32, n: u32| six(m) + &six(n) + "\n";
+    for (file, number, line) in [
+        // The first case's sheet: four good calibrations, of which two are due.
+        (
+            head(2, 3)
+                + "    30     1     2     1     2\n    20     1     1     1\n    10     1     2     1     2\n",
+            1,
+            2,
+        ),
+        (head(1, 1) + "     5     1     1     1\n", 1, 2),
+        // Four fields for four calibrations, and then no batch.
+        (head(4, 1) + "     5     1     1     1\n", 1, 3),
+        // Two lines, the second of which is then the first batch's.
+        (
+            head(4, 2) + "     5     1     1     1\n     6     1     1     1\n",
+            1,
+            4,
+        ),
+        // Too few fields for five instruments: the LF is no blank.
+        (head(5, 1) + "     5     1     1     1\n", 1, 2),
+        (head(2, 1) + "   241     1     2     1     2\n", 10, 2),
+        (head(2, 1) + "   300           2     1     2\n", 10, 2),
+        (head(2, 1) + "    30           2     1     2\n", 1, 2),
+        (head(1, 0), 1, 2),
+        (head(24, 0), 1, 2),
+    ] {
+        assert_eq!(refused(file.as_bytes()), (number, line), "{file:?}");
+    }
+    // No such file is taken for a sheet, since a line is missing.
+    let mut rng = Rng::new(2002);
+    for _ in 0..20_000 {
+        let file = gen::draft(&mut rng, gen::SMALL).render();
+        let mut lines: Vec<&[u8]> = file.split_inclusive(|&b| b == b'\n').collect();
+        lines.remove(1);
+        let last = lines.len() as u32 + 1;
+        let (number, line) = refused(&lines.concat());
+        assert!(
+            number == 1 && (line == 2 || line == last),
+            "{number} {line}"
+        );
+    }
+}
+
+/// A line 2 without a calibration.
+fn zeros(m: u32) -> String {
+    six(0).repeat(m as usize) + "\n"
 }
 
 /// A file with good lines before and after the one under test.
 fn around(m: u32, before: usize, line: &str, after: usize) -> Vec<u8> {
     let n = (before + 1 + after) as u32;
     let good = "     7     1     1     1\n";
-    let mut file = six(m) + &six(n) + "\n";
+    let mut file = six(m) + &six(n) + "\n" + &zeros(m);
     file += &good.repeat(before);
     file += line;
     file += &good.repeat(after);
@@ -297,7 +397,7 @@ fn faults_inside_a_batch_line() {
         for (line, number) in lines {
             for after in after {
                 let file = around(3, before, line, after);
-                assert_eq!(refused(&file), (number, before as u32 + 2), "{line:?}");
+                assert_eq!(refused(&file), (number, before as u32 + 3), "{line:?}");
             }
         }
     }
@@ -310,26 +410,34 @@ fn the_first_fault_decides() {
     let list = "     1     1     1     3\n";
     let form = "     1     1     1    0x\n";
     let all = [(place, 5), (length, 3), (list, 4), (form, 1)];
+    let head = |n| six(2) + &six(n) + "\n     0   240\n";
     for (first, number) in all {
         for (second, _) in all {
-            let file = six(2) + &six(3) + "\n     7     1     1     1\n" + first + second;
-            assert_eq!(refused(file.as_bytes()), (number, 3));
+            let file = head(3) + "     7     1     1     1\n" + first + second;
+            assert_eq!(refused(file.as_bytes()), (number, 4));
         }
         // Left-over bytes and missing lines come last.
-        let file = six(2) + &six(1) + "\n" + first + "left over";
-        assert_eq!(refused(file.as_bytes()), (number, 2));
-        let file = six(2) + &six(9) + "\n" + first;
-        assert_eq!(refused(file.as_bytes()), (number, 2));
+        let file = head(1) + first + "left over";
+        assert_eq!(refused(file.as_bytes()), (number, 3));
+        let file = head(9) + first;
+        assert_eq!(refused(file.as_bytes()), (number, 3));
     }
     // A blank place before them changes nothing.
     let good = "     7           1     1\n";
     for (line, number) in all {
-        let file = six(2) + &six(3) + "\n" + good + line + good;
-        assert_eq!(refused(file.as_bytes()), (number, 3));
+        let file = head(3) + good + line + good;
+        assert_eq!(refused(file.as_bytes()), (number, 4));
     }
-    // The LF of the first line comes before any batch.
-    let file = text(&[&["     2", "     1", " "], &["     0"]]);
+    // The LF of the first line comes before any calibration, and that of the
+    // second before any batch.
+    let file = text(&[&["     2", "     1", " "], &["   241"]]);
     assert_eq!(refused(&file), (1, 1));
+    let file = text(&[
+        &["     2", "     1"],
+        &["     0", "     0", " "],
+        &["     0"],
+    ]);
+    assert_eq!(refused(&file), (1, 2));
 }
 
 #[test]
@@ -345,7 +453,7 @@ fn list_of_all_instruments() {
                 let mut list = list.clone();
                 list[k] = bad;
                 let file = Draft::new(m, &[(5, 0, &list)]).render();
-                assert_eq!(refused(&file), (4, 2));
+                assert_eq!(refused(&file), (4, 3));
             }
         }
         for k in 1..m as usize {
@@ -353,12 +461,12 @@ fn list_of_all_instruments() {
                 let mut list = list.clone();
                 list[k] = list[i];
                 let file = Draft::new(m, &[(5, 0, &list)]).render();
-                assert_eq!(refused(&file), (4, 2));
+                assert_eq!(refused(&file), (4, 3));
             }
         }
         let longer: Vec<u32> = (1..=m + 1).collect();
         let file = Draft::new(m, &[(5, 0, &longer)]).render();
-        assert_eq!(refused(&file), (4, 2));
+        assert_eq!(refused(&file), (4, 3));
     }
 }
 
@@ -372,7 +480,7 @@ fn every_place() {
                 let expected = if place == 0 { 1 } else { place };
                 assert_eq!(read(&file).unwrap().batches()[0].place, expected);
             } else {
-                assert_eq!(refused(&file), (5, 2));
+                assert_eq!(refused(&file), (5, 3));
             }
         }
         let blank = Draft::new(m, &[(5, 0, &list)]).without_places();

@@ -217,6 +217,8 @@ fn main() {
         time(&kind.name(), sheets);
     }
     time("the hard shape", (0..4).map(kinds::hard).collect());
+    let calibrated = (0..4).map(kinds::hard_calibrated).collect();
+    time("the hard shape with calibrations", calibrated);
     for (name, lists) in [
         ("reading alone, short lists", Lists::Short),
         ("reading alone, long lists", Lists::Long),

@@ -3,12 +3,52 @@
 use second::rng::Rng;
 use second::*;
 
-pub fn loads(sheet: &Sheet, places: &[u32]) -> Vec<u32> {
+/// What takes part in a trial: the batches, and each calibration above 0 as one
+/// that may be on its own instrument alone.
+pub fn items(sheet: &Sheet) -> Vec<Batch> {
+    let own = |j: u32| Batch {
+        length: sheet.calibrations()[j as usize - 1],
+        list: vec![j],
+        place: j,
+    };
+    let calibrations = (1..=sheet.instruments()).map(own);
+    let batches = sheet.batches().iter().cloned();
+    batches
+        .chain(calibrations.filter(|b| b.length > 0))
+        .collect()
+}
+
+/// The loads of `m` instruments with these items at these places, of which 0 is
+/// none.
+pub fn item_loads(m: u32, items: &[Batch], places: &[u32]) -> Vec<u32> {
+    assert_eq!(items.len(), places.len());
     let of = |j| {
-        let pairs = sheet.batches().iter().zip(places);
+        let pairs = items.iter().zip(places);
         pairs.filter(|(_, p)| **p == j).map(|(b, _)| b.length).sum()
     };
-    (1..=sheet.instruments()).map(of).collect()
+    (1..=m).map(of).collect()
+}
+
+/// The loads with the batches at these places.
+pub fn loads(sheet: &Sheet, places: &[u32]) -> Vec<u32> {
+    let batches = item_loads(sheet.instruments(), sheet.batches(), places);
+    let pairs = batches.iter().zip(sheet.calibrations());
+    pairs.map(|(batches, own)| batches + own).collect()
+}
+
+/// The greatest length of a batch or a calibration.
+pub fn longest(sheet: &Sheet) -> u32 {
+    let lengths = sheet.batches().iter().map(|b| b.length);
+    let all = lengths.chain(sheet.calibrations().iter().copied());
+    all.max().unwrap()
+}
+
+/// The minutes of batches and calibrations that can be in the group alone.
+pub fn confined(sheet: &Sheet, group: &[u32]) -> u32 {
+    let inside = |b: &&Batch| b.list.iter().all(|j| group.contains(j));
+    let batches = sheet.batches().iter().filter(inside).map(|b| b.length);
+    let own = group.iter().map(|&j| sheet.calibrations()[j as usize - 1]);
+    batches.chain(own).sum()
 }
 
 pub fn permitted(sheet: &Sheet, places: &[u32]) -> bool {
@@ -93,6 +133,7 @@ pub fn chain(rng: &mut Rng) -> Sheet {
     rng.shuffle(&mut lines);
     let draft = Draft {
         instruments: m,
+        calibrations: gen::calibrations(rng, m, 12),
         lines,
     };
     draft.sheet()
@@ -116,7 +157,9 @@ pub fn halving(sheet: &Sheet) -> Vec<(u32, Trial)> {
 }
 
 pub fn step_bounds(sheet: &Sheet, raises: u32, bumps: u32) {
+    let calibrations = sheet.calibrations().iter().filter(|&&c| c > 0).count() as u32;
+    let listed: usize = sheet.batches().iter().map(|b| b.list.len()).sum();
     let (m, n) = (sheet.instruments(), sheet.batches().len() as u32);
-    assert!(raises <= m * (2 * m + 1) + n * (2 * m + 2));
-    assert!(bumps <= (4 * m + 4) * sheet.listed() as u32);
+    assert!(raises <= m * (2 * m + 1) + (n + calibrations) * (2 * m + 2));
+    assert!(bumps <= (4 * m + 4) * (listed as u32 + calibrations));
 }

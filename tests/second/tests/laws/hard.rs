@@ -2,7 +2,7 @@
 
 use second::*;
 
-use crate::common::{halving, record_laws, step_bounds};
+use crate::common::{confined, halving, longest, record_laws, step_bounds};
 use crate::settling::settle_laws;
 use crate::watch::watch;
 
@@ -12,21 +12,22 @@ fn steps(trial: &Trial) -> u32 {
 
 #[test]
 fn many_steps_within_the_bounds() {
-    for seed in 0..24 {
-        let sheet = gen::hard(seed);
+    // With the least number of steps of the longest trial, and of all.
+    let plain = (0..24).map(|seed| (seed, gen::hard(seed), [200_000, 600_000]));
+    let calibrated = (0..8).map(|seed| (seed, gen::hard_calibrated(seed), [200_000, 250_000]));
+    for (seed, sheet, least) in plain.chain(calibrated) {
         assert_eq!((sheet.instruments(), sheet.batches().len()), (24, 200));
         let tried = halving(&sheet);
         for (level, answer) in &tried {
             step_bounds(&sheet, answer.raises, answer.bumps);
             if let Verdict::Fail(group) = &answer.verdict {
                 let size = group.len() as u32;
-                assert!(sheet.confined(group) >= size * (level + 1) + sheet.longest());
+                assert!(confined(&sheet, group) >= size * (level + 1) + longest(&sheet));
             }
         }
         let most = tried.iter().map(|(_, t)| steps(t)).max().unwrap();
         let sum: u32 = tried.iter().map(|(_, t)| steps(t)).sum();
-        assert!(most > 200_000, "{seed}: {most}");
-        assert!(sum > 600_000, "{seed}: {sum}");
+        assert!(most > least[0] && sum > least[1], "{seed}: {most} {sum}");
 
         let mut balanced = sheet.clone();
         let answer = balance(&mut balanced, 200).unwrap();
@@ -37,7 +38,7 @@ fn many_steps_within_the_bounds() {
             (kept.0, kept.1.raises, kept.1.bumps)
         );
         assert!(answer.finish <= sheet.finish());
-        assert!(answer.finish < answer.floor + sheet.longest());
+        assert!(answer.finish < answer.floor + longest(&sheet));
         record_laws(&sheet, &balanced, &answer.records);
         let settled = settle_laws(&balanced);
         assert!(settled.answer.finish <= answer.finish);
@@ -47,8 +48,11 @@ fn many_steps_within_the_bounds() {
 
 #[test]
 fn a_long_trial_step_by_step() {
-    let sheet = gen::hard(1);
-    let tried = halving(&sheet);
-    let (level, answer) = tried.iter().max_by_key(|(_, t)| steps(t)).unwrap();
-    assert_eq!(&watch(&sheet, *level as u64, 97).answer, answer);
+    for (sheet, returned) in [(gen::hard(1), 0), (gen::hard_calibrated(1), 400)] {
+        let tried = halving(&sheet);
+        let (level, answer) = tried.iter().max_by_key(|(_, t)| steps(t)).unwrap();
+        let watched = watch(&sheet, *level as u64, 97);
+        assert_eq!(&watched.answer, answer);
+        assert!(watched.returned >= returned, "{}", watched.returned);
+    }
 }

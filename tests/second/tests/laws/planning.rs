@@ -4,12 +4,13 @@
 use second::rng::Rng;
 use second::*;
 
-use crate::common::{chain, halving, optimum, permitted, placed, record_laws};
+use crate::common::{chain, confined, halving, longest, optimum, permitted, placed, record_laws};
 use crate::settling::{review_laws, settle_laws, Watched};
 
 /// Check a balancing of this sheet; gives what it comes to.
 pub fn balance_laws(sheet: &Sheet) -> (Sheet, Balanced) {
-    let longest = sheet.longest();
+    let longest = longest(sheet);
+    assert_eq!(sheet.longest(), longest);
     let old = sheet.finish();
     let entries = sheet.batches().len() as u64;
     let mut after = sheet.clone();
@@ -44,8 +45,12 @@ pub fn balance_laws(sheet: &Sheet) -> (Sheet, Balanced) {
     );
 
     if sheet.batches().is_empty() {
-        assert_eq!((answer.finish, answer.floor, answer.level), (0, 0, 0));
+        let numbers = (answer.finish, answer.floor, answer.level);
+        assert_eq!(numbers, (longest, longest, 0));
+        assert_eq!((answer.raises, answer.bumps), (0, 0));
         assert_eq!(answer.group, None);
+    }
+    if longest == 0 {
         return (after, answer);
     }
     // The level one below the standing finish passes, so some trial does.
@@ -54,11 +59,8 @@ pub fn balance_laws(sheet: &Sheet) -> (Sheet, Balanced) {
     match failed {
         Some((f, group)) => {
             assert_eq!(f + 1, answer.level);
-            let inside = |b: &&Batch| b.list.iter().all(|j| group.contains(j));
-            let confined = sheet.batches().iter().filter(inside);
-            let minutes: u32 = confined.map(|b| b.length).sum();
-            let size = group.len() as u32;
-            assert_eq!(answer.floor, longest.max(minutes.div_ceil(size)));
+            let share = confined(sheet, &group).div_ceil(group.len() as u32);
+            assert_eq!(answer.floor, longest.max(share));
             assert!(answer.finish < answer.floor + longest);
         }
         None => {
@@ -96,16 +98,20 @@ pub fn plan_laws(sheet: &Sheet) -> (Sheet, Balanced, Settled) {
 /// Settling keeps them.
 fn bounds(sheet: &Sheet, balanced: &Balanced, settled: &Settled, optimum: u32) {
     assert!(balanced.floor <= optimum && optimum <= settled.finish);
-    assert!(sheet.batches().is_empty() || balanced.finish < optimum + sheet.longest());
+    assert!(sheet.total() == 0 || balanced.finish < optimum + longest(sheet));
 }
 
 #[test]
 fn small_sheets() {
     let mut rng = Rng::new(52);
     let (mut grouped, mut later, mut settling) = (0, 0, 0);
+    let (mut calibrated, mut no_batch) = (0, 0);
     for _ in 0..20_000 {
         let sheet = gen::sheet(&mut rng, gen::SMALL);
         let (after, balanced, settled) = plan_laws(&sheet);
+        let above_0 = sheet.calibrations().iter().any(|&c| c > 0);
+        calibrated += above_0 as u32;
+        no_batch += (above_0 && sheet.batches().is_empty()) as u32;
         let optimum = optimum(&sheet);
         bounds(&sheet, &balanced, &settled, optimum);
         grouped += balanced.group.is_some() as u32;
@@ -115,9 +121,12 @@ fn small_sheets() {
         let (_, balanced, settled) = plan_laws(&after);
         bounds(&after, &balanced, &settled, optimum);
     }
-    let counts = [grouped, later, settling];
+    let counts = [grouped, later, settling, calibrated, no_batch];
     assert!(counts.into_iter().all(|count| count > 300), "{counts:?}");
-    assert!(grouped > 2000, "{grouped}");
+    assert!(
+        grouped > 2000 && calibrated > 8000,
+        "{grouped} {calibrated}"
+    );
 }
 
 #[test]

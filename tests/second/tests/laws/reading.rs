@@ -78,6 +78,18 @@ fn head_faults(text: &Text) -> Faults {
     faults
 }
 
+/// The faults of line 2, on a sheet of `m` instruments.
+fn calibration_faults(text: &Text, m: usize) -> Faults {
+    let mut faults = Faults::default();
+    for k in 0..m {
+        faults.judge(text, k, 0..=240, 10);
+    }
+    if !text.ends_after(m) {
+        faults.note(m, 1, text.line);
+    }
+    faults
+}
+
 /// The faults of a batch's line, and its batch where there are none. Without a
 /// good count, which is a fault before all that follows it, there is no list.
 fn line_faults(text: &Text, m: u32) -> (Faults, Line) {
@@ -129,6 +141,11 @@ fn due(file: &[u8]) -> Result<Draft, (u32, u32)> {
     let [m, n] = [0, 1].map(|k| text.field(k).unwrap());
     let mut draft = Draft::new(m, &[]);
     text = text.after(2);
+    if let Some(fault) = calibration_faults(&text, m as usize).first() {
+        return Err(fault);
+    }
+    draft.calibrations = (0..m as usize).map(|k| text.field(k).unwrap()).collect();
+    text = text.after(m as usize);
     for _ in 0..n {
         let (faults, batch) = line_faults(&text, m);
         if let Some(fault) = faults.first() {
@@ -188,7 +205,7 @@ fn files_read_back() {
 fn damaged_files() {
     let mut rng = Rng::new(12);
     let (mut sound, mut blank) = (0, 0);
-    let mut by_number = [0; 10];
+    let mut by_number = [0; 11];
     for round in 0..30_000 {
         let shape = if round % 8 == 0 {
             gen::MEDIUM
@@ -209,19 +226,22 @@ fn damaged_files() {
     }
     // The damage is varied enough to meet every outcome often.
     assert!(sound > 100 && blank > 100, "{sound}, {blank} of them blank");
-    assert!(by_number[1..=5].iter().all(|&c| c > 100), "{by_number:?}");
-    assert_eq!(by_number[6..], [0; 4]);
+    for number in [1, 2, 3, 4, 5, 10] {
+        assert!(by_number[number] > 100, "{by_number:?}");
+    }
+    assert_eq!(by_number[6..10], [0; 4]);
 }
 
 /// Every batch line that can be made of up to six numbers, blanks and LFs.
 #[test]
 fn every_short_line() {
+    const HEAD: &[u8] = b"     2     1\n     0   240\n";
     const PIECES: [&[u8]; 4] = [b"     1", b"     2", b"      ", b"\n"];
     let (mut sound, mut blank) = (0, 0);
     let mut lines: Vec<Vec<u8>> = vec![Vec::new()];
     for _ in 0..=6 {
         for line in &lines {
-            let file = [b"     2     1\n", line.as_slice()].concat();
+            let file = [HEAD, line.as_slice()].concat();
             if read_laws(&file).is_ok() {
                 sound += 1;
                 blank += gen::blank_places(&file);
@@ -234,6 +254,42 @@ fn every_short_line() {
     // in either order has both places or a blank one.
     assert_eq!(sound, 2 * (2 * 2 + 2 * 3));
     assert_eq!(blank, 2 * (2 + 2));
+}
+
+/// Every line 2 that can be made of up to four numbers, blanks and LFs, for one
+/// and two instruments without a batch.
+#[test]
+fn every_short_line_2() {
+    const PIECES: [&[u8]; 5] = [b"     0", b"   240", b"   241", b"      ", b"\n"];
+    let mut by_number = [0; 11];
+    let mut lines: Vec<Vec<u8>> = vec![Vec::new()];
+    for _ in 0..=4 {
+        for line in &lines {
+            for head in ["     1     0\n", "     2     0\n"] {
+                let file = [head.as_bytes(), line].concat();
+                let number = match read_laws(&file) {
+                    Ok(_) => 0,
+                    Err(fault) => {
+                        // Only bytes after a good line 2 are at line 3.
+                        let good = |end: usize| read(&file[..end]).is_ok();
+                        assert_eq!(fault.line == 3, (0..file.len()).any(good));
+                        fault.refusal.number()
+                    }
+                };
+                by_number[number as usize] += 1;
+            }
+        }
+        let longer = |line: &Vec<u8>| PIECES.map(|piece| [line, piece].concat());
+        lines = lines.iter().flat_map(longer).collect();
+    }
+    // Two calibrations for one instrument, four pairs for two.
+    assert_eq!(by_number[0], 2 + 4);
+    // 241 as the first field, before anything; or as the second of two, after
+    // one of two good ones.
+    let lines = |fields: u32| (0..=4 - fields).map(|more| 5u32.pow(more)).sum::<u32>();
+    assert_eq!(by_number[10], 2 * lines(1) + 2 * lines(2));
+    let all: u32 = by_number.iter().sum();
+    assert_eq!(by_number[0] + by_number[1] + by_number[10], all);
 }
 
 #[test]

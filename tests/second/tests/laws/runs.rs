@@ -24,7 +24,9 @@ fn refusal_due(book: &Draft, call: &Call) -> Option<Refusal> {
         line.list.iter().any(|&k| k as u64 == j)
     };
     let m = book.instruments;
-    let total: u64 = book.lines.iter().map(|line| line.length as u64).sum();
+    let lengths = book.lines.iter().map(|line| line.length);
+    let minutes = lengths.chain(book.calibrations.iter().copied());
+    let total: u64 = minutes.map(u64::from).sum();
     let checks: &[(bool, Refusal)] = match call {
         Call::Add { length, list } => &[
             (book.lines.len() < 200, Refusal::Full),
@@ -163,6 +165,7 @@ fn runs_on_a_full_sheet() {
             instruments: (2, 6),
             batches: (199, 200),
             lengths: (1, 5),
+            calibrations: 5,
         };
         let draft = gen::draft(&mut rng, shape);
         let calls = gen::calls(&mut rng, draft.instruments, 200, 5, 20);

@@ -3,12 +3,12 @@
 use second::rng::Rng;
 use second::*;
 
-use crate::common::{chain, levels, loads, optimum};
+use crate::common::{chain, confined, levels, loads, longest, optimum};
 use crate::watch::{watch, Watched};
 
 /// What a trial's answer shows, whatever its acts were.
 fn answer_laws(sheet: &Sheet, level: u64, watched: &Watched) {
-    let (level, longest) = (level as u32, sheet.longest());
+    let (level, longest) = (level as u32, longest(sheet));
     match &watched.answer.verdict {
         Verdict::Pass(places) => {
             assert!(loads(sheet, places).iter().all(|&l| l <= level + longest));
@@ -16,7 +16,8 @@ fn answer_laws(sheet: &Sheet, level: u64, watched: &Watched) {
         // Spread evenly, the group's confined minutes exceed the level.
         Verdict::Fail(group) => {
             let size = group.len() as u32;
-            assert!(sheet.confined(group) >= size * (level + 1) + longest);
+            assert_eq!(sheet.confined(group), confined(sheet, group));
+            assert!(confined(sheet, group) >= size * (level + 1) + longest);
         }
     }
 }
@@ -41,7 +42,7 @@ fn failure_laws(sheet: &Sheet, level: u64, watched: &Watched, optimum: u32) {
         assert_eq!(group.len(), loads.len());
         return;
     }
-    let most = level + sheet.longest() as u64;
+    let most = level + longest(sheet) as u64;
     let first = loads.iter().position(|&l| l as u64 > most).unwrap();
     let sets = (0..1u32 << loads.len()).filter(|set| set >> first & 1 == 1);
     let least = sets
@@ -54,7 +55,7 @@ fn failure_laws(sheet: &Sheet, level: u64, watched: &Watched, optimum: u32) {
 #[test]
 fn small_sheets() {
     let mut rng = Rng::new(41);
-    let (mut failures, mut partial, mut acts) = (0, 0, 0);
+    let (mut failures, mut partial, mut acts, mut returned) = (0, 0, 0, 0);
     for _ in 0..20_000 {
         let sheet = gen::sheet(&mut rng, gen::SMALL);
         let optimum = optimum(&sheet);
@@ -63,6 +64,7 @@ fn small_sheets() {
             answer_laws(&sheet, level, &watched);
             failure_laws(&sheet, level, &watched, optimum);
             acts += watched.answer.raises + watched.answer.bumps;
+            returned += watched.returned;
             if let Verdict::Fail(group) = watched.answer.verdict {
                 failures += 1;
                 partial += (group.len() < sheet.instruments() as usize) as u32;
@@ -71,7 +73,7 @@ fn small_sheets() {
     }
     // Both kinds of group are met often.
     assert!(failures > 2000 && partial > 500, "{failures} {partial}");
-    assert!(acts > 100_000, "{acts}");
+    assert!(acts > 100_000 && returned > 2000, "{acts} {returned}");
 }
 
 fn watched_at(rng: &mut Rng, sheet: &Sheet, few: u64, every: u32) {

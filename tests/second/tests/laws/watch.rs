@@ -4,9 +4,10 @@
 use second::trial::{Act, State};
 use second::*;
 
-use crate::common::{loads, permitted, step_bounds};
+use crate::common::{item_loads, items, longest, permitted, step_bounds};
 
-/// A batch or an instrument, by its number from 1.
+/// A batch or an instrument, by its number from 1. Calibrations above 0 are
+/// batches here, numbered after the sheet's own.
 #[derive(Clone, Copy, Debug, PartialEq, Eq)]
 enum Item {
     Batch(usize),
@@ -21,7 +22,7 @@ struct View<'a> {
 
 impl<'a> View<'a> {
     fn of(state: &'a State) -> View<'a> {
-        let loads = loads(state.sheet, &state.places);
+        let loads = item_loads(state.sheet.instruments(), state.items, &state.places);
         View { state, loads }
     }
 
@@ -44,7 +45,7 @@ impl<'a> View<'a> {
     }
 
     fn overflowing(&self, item: Item) -> bool {
-        let most = self.state.level + self.state.sheet.longest();
+        let most = self.state.level + longest(self.state.sheet);
         match item {
             Item::Batch(i) => self.state.places[i - 1] == 0,
             Item::Instrument(j) => self.loads[j as usize - 1] > most,
@@ -54,7 +55,7 @@ impl<'a> View<'a> {
     /// The ends of an item's arrows, lowest number first.
     fn ends(&self, item: Item) -> Vec<Item> {
         let State { sheet, places, .. } = self.state;
-        let arrow = |i: usize, j: u32| sheet.batches()[i - 1].list.contains(&j);
+        let arrow = |i: usize, j: u32| self.state.items[i - 1].list.contains(&j);
         match item {
             Item::Batch(i) => (1..=sheet.instruments())
                 .filter(|&j| arrow(i, j) && places[i - 1] != j)
@@ -155,7 +156,7 @@ fn effect<'a>(before: &State<'a>, act: Act) -> State<'a> {
         Act::Unplace { .. } | Act::Place { .. } => after.bumps += 1,
         _ => after.raises += 1,
     }
-    after.loads = loads(after.sheet, &after.places);
+    after.loads = item_loads(after.sheet.instruments(), after.items, &after.places);
     after
 }
 
@@ -185,18 +186,25 @@ pub struct Watched {
     pub answer: Trial,
     /// Where the batches were at the end.
     pub places: Vec<u32>,
+    /// How often a calibration was bumped off its instrument and went back.
+    pub returned: u32,
 }
 
 /// Follow a trial and check its answer. The heights of all arrows' ends are
 /// compared at every so many acts.
 pub fn watch(sheet: &Sheet, level: u64, every: u32) -> Watched {
-    let mut state = State::start(sheet, level as u32);
+    let items = items(sheet);
+    assert_eq!(sheet.items(), items);
+    let mut state = State::start(sheet, &items, level as u32);
     let (m, n) = (sheet.instruments() as usize, sheet.batches().len());
-    assert_eq!(state.places, sheet.places());
+    let (mine, own) = state.places.split_at(n);
+    assert_eq!(mine, sheet.places());
+    let own = own.to_vec();
     assert_eq!(state.instrument_heights, vec![0; m]);
-    assert_eq!(state.batch_heights, vec![0; n]);
+    assert_eq!(state.batch_heights, vec![0; items.len()]);
     assert_eq!((state.raises, state.bumps), (0, 0));
     let mut light = View::of(&state).light();
+    let mut returned = 0;
     loop {
         let view = View::of(&state);
         assert_eq!(state.loads, view.loads, "the loads kept");
@@ -214,6 +222,12 @@ pub fn watch(sheet: &Sheet, level: u64, every: u32) -> Watched {
         if let Act::Unplace { .. } | Act::RaiseInstrument { .. } = act {
             assert_eq!(unplaced, 0);
         }
+        if let Act::Place { batch, instrument } = act {
+            if batch >= n {
+                assert_eq!(instrument, own[batch - n]);
+                returned += 1;
+            }
+        }
         let expected = effect(&state, act);
         state.make(act);
         assert_eq!(state, expected);
@@ -221,9 +235,11 @@ pub fn watch(sheet: &Sheet, level: u64, every: u32) -> Watched {
     let (raises, bumps) = (state.raises, state.bumps);
     step_bounds(sheet, raises, bumps);
     let view = View::of(&state);
-    assert!(permitted(sheet, &state.places), "a batch is left over");
+    let (places, calibrations) = state.places.split_at(n);
+    assert!(permitted(sheet, places), "a batch is left over");
+    assert_eq!(calibrations, own, "a calibration is left over");
     let over = view.items().find(|&x| view.overflowing(x));
-    let places = state.places.clone();
+    let places = places.to_vec();
     let verdict = match over {
         None => Verdict::Pass(places.clone()),
         Some(_) if light.is_empty() => Verdict::Fail((1..=sheet.instruments()).collect()),
@@ -237,5 +253,9 @@ pub fn watch(sheet: &Sheet, level: u64, every: u32) -> Watched {
     };
     assert_eq!(trial(sheet, level).as_ref(), Ok(&answer));
     assert_eq!(state.answer(), answer);
-    Watched { answer, places }
+    Watched {
+        answer,
+        places,
+        returned,
+    }
 }

@@ -14,7 +14,7 @@ use Rattle.planner.proofs.balance.balance.Tie as tie
 
 abbrev Inv-loop : tie.InvT-loop
 Inv-loop minutes masks m n most highest s₀ s =
-    (s .failed1 ≤ s .level) × (s .level ≤ 288000) × (s .start ≡ s₀ .start) × (s .standing ≡ s₀ .standing)
+    (s .failed1 ≤ s .level) × (s .level ≤ 322560) × (s .start ≡ s₀ .start) × (s .standing ≡ s₀ .standing)
     × ((I : Instance) → Standing I m n minutes masks (s₀ .start) (s₀ .standing) → most ≡ longest I → highest ≡ makespan I (take n (s₀ .start))
     → Seeking I m n (take n (s₀ .start)) s)
 

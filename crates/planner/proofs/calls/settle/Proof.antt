@@ -1,14 +1,15 @@
 -- Settle over the sheet's arrays is the rules'.
-use mathlib.Core.Path.{refl, ap, _∙_}
+use mathlib.Core.Path.{_∙_}
 use native.Mathlib.Omega.{arith}
 use borrow.Author.Needs.{needs}
-use Rattle.rules.specs.Instance.{Assignment, instance}
-use Rattle.rules.specs.Run.{withPlaces}
-use Rattle.sheet.specs.Represent.{sheetOf, bookOf}
-use Rattle.sheet.proofs.Placed.{kept-taken}
-use Rattle.planner.proofs.Drawing.{rest-permitted, settle-shown}
+use Rattle.sheet.specs.Represent.{bookOf}
+use Rattle.sheet.proofs.SoundViews.{view-batches}
+use Rattle.planner.proofs.Drawing.{rest-permitted, front-entered, settle-shown}
 use Rattle.planner.proofs.calls.settle.Statement.{statement}
 use Rattle.planner.proofs.calls.settle.Tie as tie
+
+batches-requires : tie.Need-batches-requires
+batches-requires c κs = search needs
 
 lay-requires : tie.Need-lay-requires
 lay-requires c κs = search needs
@@ -26,28 +27,35 @@ rest-requires c κs =
     let u = k .reads .most in
     ((_, k), (omega (arith, u, l .wide .0), omega (arith, u, l .wide .1), omega (arith, k .reads .few, l .wide .3)))
 
+front-requires : tie.Need-front-requires
+front-requires c κs =
+    let b = c .before .before .before .before .before .before .before .before .before in
+    omega (arith, b .batches .ensures, view-batches (b .before .args .sheet) (b .before .pre))
+
 with-places-requires : tie.Need-with-places-requires
-with-places-requires c κs = c .before .before .before .before .before .before .before .before .before .pre
+with-places-requires c κs = search needs
 
 returns : tie.Need-returns
 returns c =
-    let a = c .before .before .before .before .before .before .before .before .before in
-    let k = bookOf (a .before .args .sheet) in
+    let f = c .before in
+    let z = f .before .before in
+    let a = z .before .before .before .before .before .before .before in
+    let n = a .before in
+    let k = bookOf (n .before .args .sheet) in
     let l = a .lay .ensures in
-    let z = c .before .before .rest in
-    let e = z .ensures _ (l .stands) in
-    settle-shown k (z .result) _ (l .shown) e
-    (c .with-places .ensures .0
-    ∙ ap (λ (x : Assignment). sheetOf (withPlaces k x)) (kept-taken (instance k) _ (rest-permitted (l .stands) e))
-    ∙ (rw (l .stands .reads .jobs) refl))
+    let e = z .rest .ensures _ (l .stands) in
+    settle-shown k (z .rest .result) _ (l .shown) e
+    (c .with-places .ensures .0 ∙ front-entered k _ _ (z .rest .result .places) _ (rest-permitted (l .stands) e) (l .stands .reads .jobs) (n .batches .ensures) (f .front .ensures))
 
 pub settle-spec : {M : Type 1} → statement M
 settle-spec =
     tie.close
     (tie.spec
+    batches-requires
     lay-requires
     slice-aggregate-rest
     slice-aggregate-rest-2
     rest-requires
+    front-requires
     with-places-requires
     returns)

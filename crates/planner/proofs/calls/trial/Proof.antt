@@ -1,14 +1,16 @@
 -- The trial over the sheet's arrays is the rules'.
-use Prim.Native.Nat.{_≤_}
-use mathlib.Core.Path.{_≡_, _∙_}
+use Prim.Native.Nat.{ℕ, _≤_}
+use mathlib.Core.Path.{_≡_, ap, _∙_}
 use native.Mathlib.Omega.{arith}
-use lib.ListN.{length}
+use lib.ListN.{length, take}
 use borrow.Author.Needs.{needs}
 use Rattle.rules.specs.Instance.{instance}
 use Rattle.rules.specs.Load.{total, longest}
 use Rattle.theory.proofs.Small.{total-small, longest-small}
 use Rattle.arrays.proofs.Lengths.{total-reads, longest-reads}
-use Rattle.sheet.specs.Represent.{bookOf}
+use Rattle.theory.proofs.Jobs.{batches-first}
+use Rattle.sheet.specs.Represent.{bookOf, padded}
+use Rattle.sheet.proofs.SoundViews.{view-batches}
 use Rattle.planner.proofs.Answered.{trial-answered}
 use Rattle.planner.proofs.TrialAnswers.{answered-refused, answered-passed, answered-failed}
 use Rattle.planner.proofs.calls.trial.Statement.{statement}
@@ -27,20 +29,23 @@ masks-long c = omega (arith, c .lay .ensures .stands .reads .most, c .lay .ensur
 abbrev at-lay : tie.After-total-of → tie.After-lay
 at-lay c = c .before .before .before .before
 
-total-by : (c : tie.After-total-of) → c .total-of .result ≡ total (instance (bookOf (at-lay c .before .args .sheet)))
+total-by : (c : tie.After-total-of) → c .total-of .result ≡ total (instance (bookOf (at-lay c .before .before .args .sheet)))
 total-by c = c .total-of .ensures ∙ total-reads (at-lay c .lay .ensures .stands .reads)
 
-within : (c : tie.Else1) → at-lay (c .before) .before .args .level ≤ total (instance (bookOf (at-lay (c .before) .before .args .sheet)))
+within : (c : tie.Else1) → at-lay (c .before) .before .before .args .level ≤ total (instance (bookOf (at-lay (c .before) .before .before .args .sheet)))
 within c = omega (arith, c .if1 .left, total-by (c .before))
 
 abbrev level : tie.After-longest-of → tie.Else1
 level c = c .before .before .before .before
 
-longest-by : (c : tie.After-longest-of) → c .longest-of .result ≡ longest (instance (bookOf (at-lay (level c .before) .before .args .sheet)))
+longest-by : (c : tie.After-longest-of) → c .longest-of .result ≡ longest (instance (bookOf (at-lay (level c .before) .before .before .args .sheet)))
 longest-by c = c .longest-of .ensures ∙ longest-reads (at-lay (level c .before) .lay .ensures .stands .reads)
 
 abbrev tried : tie.After-try-level → tie.After-longest-of
 tried c = c .before .before .before
+
+batches-requires : tie.Need-batches-requires
+batches-requires c κs = search needs
 
 lay-requires : tie.Need-lay-requires
 lay-requires c κs = search needs
@@ -57,7 +62,7 @@ returns : tie.Need-returns
 returns c =
     let a = total-by (c .before) in
     let z = c .if1 .taken in
-    trial-answered (at-lay (c .before) .before .pre .book) (answered-refused _ _ (omega arith))
+    trial-answered (at-lay (c .before) .before .before .pre .book) (answered-refused _ _ (omega arith))
 
 slice-aggregate-longest-of : tie.Need-slice-aggregate-longest-of
 slice-aggregate-longest-of c = search needs
@@ -83,15 +88,21 @@ try-level-requires c κs =
     ((_, l .lay .ensures .stands, omega (arith, longest-by g)), (minutes-long l, masks-long l))
 
 front-requires : tie.Need-front-requires
-front-requires c κs = at-lay (level (tried (c .before .before)) .before) .lay .ensures .stands .reads .most
+front-requires c κs =
+    let b = at-lay (level (tried (c .before .before)) .before) .before in
+    omega (arith, b .batches .ensures, view-batches (b .before .args .sheet) (b .before .pre))
 
 returns-2 : tie.Need-returns-2
 returns-2 c =
     let t = c .before .before .before in
-    let l = at-lay (level (tried t) .before) .lay .ensures in
+    let a = at-lay (level (tried t) .before) in
+    let n = a .before in
+    let k = bookOf (n .before .args .sheet) in
+    let l = a .lay .ensures in
     let y = t .try-level .ensures _ (l .stands) (omega (arith, longest-by (tried t))) in
-    trial-answered (at-lay (level (tried t) .before) .before .pre .book)
-    (answered-passed _ _ (within (level (tried t))) (l .shown) y (c .before .before .if2 .taken) _ (c .front .ensures))
+    trial-answered (n .before .pre .book)
+    (answered-passed k _ (within (level (tried t))) (l .shown) y (c .before .before .if2 .taken) (omega (arith, batches-first k, l .stands .reads .jobs)) _
+    (c .front .ensures ∙ ap (λ (j : ℕ). padded 200 (take j (t .try-level .result .places))) (n .batches .ensures)))
 
 members-of-requires : tie.Need-members-of-requires
 members-of-requires c κs = at-lay (level (tried (c .before)) .before) .lay .ensures .stands .reads .few
@@ -102,13 +113,14 @@ returns-3 c =
     let l = at-lay (level (tried t) .before) .lay .ensures in
     let r = l .stands .reads in
     let y = t .try-level .ensures _ (l .stands) (omega (arith, longest-by (tried t))) in
-    trial-answered (at-lay (level (tried t) .before) .before .pre .book)
+    trial-answered (at-lay (level (tried t) .before) .before .before .pre .book)
     (answered-failed _ _ (within (level (tried t))) (l .shown) y (c .before .before .if2 .left) _ (r .machines) (r .few) _ _ (c .before .members-of .ensures))
 
 pub trial-spec : {M : Type 1} → statement M
 trial-spec =
     tie.close
     (tie.spec
+    batches-requires
     lay-requires
     slice-aggregate-total-of
     total-of-requires

@@ -15,7 +15,7 @@ use Rattle.settling.proofs.settle.settle.Tie as tie
 
 abbrev Inv-loop : tie.InvT-loop
 Inv-loop minutes masks n m x₀ l₀ moves₀ next₀ x l moves next =
-    (length x ≡ 200) × (length l ≡ 24)
+    (length x ≡ 224) × (length l ≡ 24)
     × ((I : Instance) → Reads I m n minutes masks → Placing I m n x₀ l₀ → Run I m n x₀ x l moves next)
 
 abbrev μ-loop : tie.MeasureT-loop

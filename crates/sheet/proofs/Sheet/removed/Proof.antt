@@ -44,16 +44,16 @@ shift-down-requires-3 c κs =
     let h : length (s .args .self .lists) ≡ 4800 = search needs in
     omega (arith, s .pre)
 
-sub-t18 : tie.Need-sub-t18
-sub-t18 c = search needs
+sub-t19 : tie.Need-sub-t19
+sub-t19 c = search needs
 
 returns : tie.Need-returns
 returns c =
     simp (
-      c .before .before .before .before .before .before .before .before .before .before .before .before .before .shift-minutes .ensures,
-      c .before .before .before .before .before .before .before .before .before .shift-down .ensures,
-      c .before .before .before .before .before .shift-down2 .ensures,
-      c .before .shift-down3 .ensures,
+      c .before .before .before .before .before .before .before .before .before .before .before .before .before .before .shift-minutes .ensures,
+      c .before .before .before .before .before .before .before .before .before .before .shift-down .ensures,
+      c .before .before .before .before .before .before .shift-down2 .ensures,
+      c .before .before .shift-down3 .ensures,
     )
 
 pub removed-spec : {M : Type 1} → statement M
@@ -69,5 +69,5 @@ removed-spec =
     slice-aggregate-shift-down-3
     mul-shift-down
     shift-down-requires-3
-    sub-t18
+    sub-t19
     returns)

@@ -3,20 +3,18 @@ use Prim.Native.Nat.{_-_, _≤_}
 use mathlib.Core.Path.{_≡_}
 use native.Mathlib.Omega.{arith}
 use lib.ListN.{length}
-use Rattle.rules.specs.Instance.{instance}
 use Rattle.sheet.specs.Represent.{bookOf}
 use Rattle.sheet.specs.View.{keptPlaces}
 use Rattle.sheet.proofs.SoundArrays.{few-batches, list-size}
 use Rattle.theory.proofs.Enter.{Entered, entered-start}
-use Rattle.sheet.proofs.Placed.{kept-step, kept-end, kept-permitted}
-use Rattle.sheet.proofs.SoundViews.{view-permitted, view-placed}
+use Rattle.sheet.proofs.Placed.{kept-step, kept-end, kept-sound}
 use borrow.Author.Needs.{needs}
 use Rattle.sheet.proofs.Sheet.with_places.Statement.{statement}
 use Rattle.sheet.proofs.Sheet.with_places.Tie as tie
 
 abbrev Inv-loop : tie.InvT-loop
 Inv-loop self x n counts lists places₀ b₀ places b =
-    (n ≤ 200) × Entered places₀ 0 (keptPlaces (instance (bookOf self)) x) n places b
+    (n ≤ 200) × Entered places₀ 0 (keptPlaces (bookOf self) x) n places b
 
 abbrev μ-loop : tie.MeasureT-loop
 μ-loop self x n counts lists places₀ b₀ places b = n - b
@@ -69,7 +67,7 @@ returns : tie.Need-returns Inv-loop μ-loop
 returns c =
     let s = c .before .before .before .before .before in
     let q = kept-end (s .args .self) (s .args .t2) (s .pre) (c .before .loop .inv .1) (c .loop-test .left) in
-    (q, rw q (view-placed (s .args .self) (s .pre) _ (kept-permitted _ (s .args .t2) _ (view-permitted (s .args .self) (s .pre)))))
+    (q, rw q (kept-sound (s .args .self) (s .args .t2) (s .pre)))
 
 pub with-places-spec : {M : Type 1} → statement M
 with-places-spec =

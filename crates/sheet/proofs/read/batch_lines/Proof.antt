@@ -4,7 +4,7 @@ use mathlib.Core.Path.{_≡_, sym, ap, _∙_}
 use native.Mathlib.Omega.{arith}
 use borrow.Author.Needs.{needs}
 use mathlib.Core.List.{List}
-use lib.ListN.{length}
+use lib.ListN.{length, take}
 use Rattle.sheet.specs.declared.Refusal.the-variants.{Nothing}
 use Rattle.sheet.proofs.PartsRead.{LineGiven, line-given, some-refusal}
 use Rattle.sheet.proofs.BatchesRead.{held, BatchesSofar, none-yet, lists-long, one-more, then-refused, left-over, all-read}
@@ -12,10 +12,11 @@ use Rattle.sheet.proofs.read.batch_lines.Statement.{statement}
 use Rattle.sheet.proofs.read.batch_lines.Tie as tie
 
 abbrev Inv-loop : tie.InvT-loop
-Inv-loop s at m n minutes₀ places₀ counts₀ lists₀ next₀ i₀ minutes places counts lists next i = BatchesSofar s at m n (held m i minutes places counts lists) next i
+Inv-loop s at m n calibrations minutes₀ places₀ counts₀ lists₀ next₀ i₀ minutes places counts lists next i =
+    BatchesSofar s at m n (take m calibrations) (held m i calibrations minutes places counts lists) next i
 
 abbrev μ-loop : tie.MeasureT-loop
-μ-loop s at m n minutes₀ places₀ counts₀ lists₀ next₀ i₀ minutes places counts lists next i = n - i
+μ-loop s at m n calibrations minutes₀ places₀ counts₀ lists₀ next₀ i₀ minutes places counts lists next i = n - i
 
 abbrev text : tie.Start Inv-loop μ-loop → List ℕ
 text c = c .args .s .now
@@ -24,7 +25,7 @@ text c = c .args .s .now
 given : (c : tie.After-enum-told Inv-loop μ-loop) →
     LineGiven (text (c .before .before .before .before .before .before)) (c .before .before .before .before .loop .next) (c .before .before .before .before .loop .inv .room) (c .before .before .before .before .before .before .args .m) (c .before .before .batch-line .result)
 given c =
-    line-given (text (c .before .before .before .before .before .before)) (c .before .before .before .before .loop .next) (c .before .before .before .before .loop .inv .room) (c .before .before .before .before .before .before .args .m) (c .before .before .before .before .loop .i + 2) _ (c .before .before .before .before .before .before .pre .1)
+    line-given (text (c .before .before .before .before .before .before)) (c .before .before .before .before .loop .next) (c .before .before .before .before .loop .inv .room) (c .before .before .before .before .before .before .args .m) (c .before .before .before .before .loop .i + 3) _ (c .before .before .before .before .before .before .pre .1)
     (c .before .before .batch-line .ensures) (c .enum-told .given .1)
 
 -- a batch more has room
@@ -32,7 +33,7 @@ room : (c : tie.After-enum-told Inv-loop μ-loop) → c .before .before .before 
 room c = omega (arith, c .before .before .before .loop-test .taken, c .before .before .before .before .before .before .pre .2)
 
 loop-holds : tie.Need-loop-holds Inv-loop μ-loop
-loop-holds c = none-yet _ _ _ _ (c .before .pre .0)
+loop-holds c = none-yet _ _ _ _ _ _ (c .before .pre .0) (c .before .pre .3)
 
 add-batch-line : tie.Need-add-batch-line Inv-loop μ-loop
 add-batch-line c = omega (arith, c .before .loop .inv .few, c .before .before .before .pre)
@@ -50,7 +51,7 @@ returns : tie.Need-returns Inv-loop μ-loop
 returns c =
     let b : tie.Start Inv-loop μ-loop = c .before .before .before .before .before .before in
     c .refused-at .ensures
-    ∙ then-refused (text b) (b .args .at) (b .args .m) (b .args .n) _ _ _ (c .before .before .before .before .loop .inv) _ (c .before .before .batch-line .ensures)
+    ∙ then-refused (text b) (b .args .at) (b .args .m) (b .args .n) _ _ _ _ (c .before .before .before .before .loop .inv) _ (c .before .before .batch-line .ensures)
     (some-refusal _ (c .before .match .keys2)) (c .before .before .before .loop-test .taken)
 
 mul-minutes : tie.Need-mul-minutes Inv-loop μ-loop
@@ -66,7 +67,7 @@ array-write-counts : tie.Need-array-write-counts Inv-loop μ-loop
 array-write-counts c = room c
 
 slice-aggregate-enter-part : tie.Need-slice-aggregate-enter-part Inv-loop μ-loop
-slice-aggregate-enter-part c = sym (lists-long _ _ _ _ _ _ _ (c .before .before .before .before .before .before .loop .inv) (c .before .before .before .before .before .before .before .before .pre .2))
+slice-aggregate-enter-part c = sym (lists-long _ _ _ _ _ _ _ _ (c .before .before .before .before .before .before .loop .inv) (c .before .before .before .before .before .before .before .before .pre .2))
 
 mul-enter-part : tie.Need-mul-enter-part Inv-loop μ-loop
 mul-enter-part c = omega (arith, room (c .before .before))
@@ -76,7 +77,7 @@ slice-aggregate-enter-part-2 c = search needs
 
 enter-part-requires : tie.Need-enter-part-requires Inv-loop μ-loop
 enter-part-requires c κs =
-    let l : length (c .before .before .before .before .before .before .before .loop .lists) ≡ 4800 = lists-long _ _ _ _ _ _ _ (c .before .before .before .before .before .before .before .loop .inv) (c .before .before .before .before .before .before .before .before .before .pre .2) in
+    let l : length (c .before .before .before .before .before .before .before .loop .lists) ≡ 4800 = lists-long _ _ _ _ _ _ _ _ (c .before .before .before .before .before .before .before .loop .inv) (c .before .before .before .before .before .before .before .before .before .pre .2) in
     let w : length (c .before .before .before .before .before .batch-line .result .list) ≡ 24 = search needs in
     (omega (arith, room (c .before .before .before)), omega arith)
 
@@ -89,7 +90,7 @@ loop-less c = omega (arith, c .before .before .before .before .before .before .b
 loop-again : tie.Need-loop-again Inv-loop μ-loop
 loop-again c =
     rw (c .before .enter-part .ensures)
-    (one-more _ _ _ _ _ _ _ (c .before .before .before .before .before .before .before .before .before .loop .inv) _ (c .before .before .before .before .before .before .before .before .before .loop .inv .room) (given (c .before .before .before .before .before)) (c .before .before .before .before .before .before .before .before .loop-test .taken) (c .before .before .before .before .before .before .before .before .before .before .before .pre .2))
+    (one-more _ _ _ _ _ _ _ _ (c .before .before .before .before .before .before .before .before .before .loop .inv) _ (c .before .before .before .before .before .before .before .before .before .loop .inv .room) (given (c .before .before .before .before .before)) (c .before .before .before .before .before .before .before .before .loop-test .taken) (c .before .before .before .before .before .before .before .before .before .before .before .pre .2))
 
 add-refused-at : tie.Need-add-refused-at Inv-loop μ-loop
 add-refused-at c = omega (arith, c .before .before .loop .inv .few, c .before .before .before .before .pre)
@@ -101,15 +102,15 @@ returns-2 : tie.Need-returns-2 Inv-loop μ-loop
 returns-2 c =
     let b : tie.Start Inv-loop μ-loop = c .before .before .before .before .before in
     c .refused-at2 .ensures
-    ∙ left-over (text b) (b .args .at) (b .args .m) (b .args .n) _ _ _ (c .before .before .before .loop .inv) (c .before .before .loop-test .left) (c .before .if1 .taken)
+    ∙ left-over (text b) (b .args .at) (b .args .m) (b .args .n) _ _ _ _ (c .before .before .before .loop .inv) (c .before .before .loop-test .left) (c .before .if1 .taken)
 
 returns-3 : tie.Need-returns-3 Inv-loop μ-loop
 returns-3 c =
     let b : tie.Start Inv-loop μ-loop = c .before .before .before .before in
     let e : b .args .n ≡ c .before .before .loop .i = omega (arith, c .before .before .loop .inv .few, c .before .loop-test .left) in
     let l = c .before .before .loop in
-    ap (λ (k : ℕ). record { refusal = Nothing; line = 0; sheet = held (b .args .m) k (l .minutes) (l .places) (l .counts) (l .lists) }) e
-    ∙ all-read (text b) (b .args .at) (b .args .m) (b .args .n) _ _ _ (l .inv) (c .before .loop-test .left) (c .if1 .left)
+    ap (λ (k : ℕ). record { refusal = Nothing; line = 0; sheet = held (b .args .m) k (b .args .calibrations) (l .minutes) (l .places) (l .counts) (l .lists) }) e
+    ∙ all-read (text b) (b .args .at) (b .args .m) (b .args .n) _ _ _ _ (l .inv) (c .before .loop-test .left) (c .if1 .left)
 
 pub batch-lines-spec : {M : Type 1} → statement M
 batch-lines-spec =

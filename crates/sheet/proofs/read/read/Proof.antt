@@ -1,4 +1,4 @@
--- Line 1: each field is read in its turn and judged, and then the LF. Then the batch lines.
+-- Line 1: each field is read in its turn and judged, and then the LF. Then the lines after it.
 use Prim.Native.Nat.{ℕ}
 use mathlib.Core.Path.{_≡_, _∙_}
 use mathlib.Core.Bool.{true}
@@ -146,14 +146,14 @@ returns-5 c =
     let e = c .before .before in
     refused (start3 e) malformed (c .refused-at5 .ensures) (rw (ending e, end-missing (text (start3 e)) 12 _ (failed (e .ends-at .ensures) (c .before .if3 .taken))))
 
-cast-batch-lines : tie.Need-cast-batch-lines
-cast-batch-lines c = search needs
+cast-lines-after : tie.Need-cast-lines-after
+cast-lines-after c = search needs
 
-cast-batch-lines-2 : tie.Need-cast-batch-lines-2
-cast-batch-lines-2 c = search needs
+cast-lines-after-2 : tie.Need-cast-lines-after-2
+cast-lines-after-2 c = search needs
 
-batch-lines-requires : tie.Need-batch-lines-requires
-batch-lines-requires c κs =
+lines-after-requires : tie.Need-lines-after-requires
+lines-after-requires c κs =
     let e = c .before in
     let k = e .before .before in
     (end-room (text (start3 e)) 12 (passed (e .ends-at .ensures) (c .if3 .left)), in-range _ 24 (good (field2 k .before)) .1, e .before .if2 .left)
@@ -162,7 +162,7 @@ returns-6 : tie.Need-returns-6
 unfolding readOf read
 returns-6 c =
     let e = c .before .before in
-    read-answered (rw (ending e, end-there (text (start3 e)) 12 _ (passed (e .ends-at .ensures) (c .before .if3 .left))) (c .batch-lines .ensures))
+    read-answered (rw (ending e, end-there (text (start3 e)) 12 _ (passed (e .ends-at .ensures) (c .before .if3 .left))) (c .lines-after .ensures))
 
 pub read-spec : {M : Type 1} → statement M
 read-spec =
@@ -186,7 +186,7 @@ read-spec =
     ends-at-requires
     refused-at-requires-5
     returns-5
-    cast-batch-lines
-    cast-batch-lines-2
-    batch-lines-requires
+    cast-lines-after
+    cast-lines-after-2
+    lines-after-requires
     returns-6)

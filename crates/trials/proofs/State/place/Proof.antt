@@ -7,7 +7,7 @@ use Rattle.trials.proofs.Waiting.{none-placed}
 use Rattle.trials.proofs.State.place.Statement.{statement}
 use Rattle.trials.proofs.State.place.Tie as tie
 
-places-long : (s : tie.Start) → length (s .args .t1 .places) ≡ 200
+places-long : (s : tie.Start) → length (s .args .t1 .places) ≡ 224
 places-long s = search needs
 
 add-self : tie.Need-add-self

@@ -17,7 +17,7 @@ use Rattle.trials.proofs.step.job_step.Tie as tie
 loads-long : (s : tie.Start) → length (s .args .t1 .loads) ≡ 24
 loads-long s = search needs
 
-few-made : (s : tie.Start) → s .args .t1 .lifts + s .args .t1 .pushes ≤ 491176
+few-made : (s : tie.Start) → s .args .t1 .lifts + s .args .t1 .pushes ≤ 549976
 few-made s = let v = s .pre .0 .2 in few-steps (v .reads) (s .args .t1) (v .tracks .counted)
 
 -- ---- the machine just below

@@ -18,13 +18,13 @@ use Rattle.trials.proofs.step.machine_step.Tie as tie
 loads-long : (s : tie.Start) → length (s .args .t1 .loads) ≡ 24
 loads-long s = search needs
 
-places-long : (s : tie.Start) → length (s .args .t1 .places) ≡ 200
+places-long : (s : tie.Start) → length (s .args .t1 .places) ≡ 224
 places-long s = search needs
 
-jobs-long : (s : tie.Start) → length (s .args .t1 .jobs) ≡ 200
+jobs-long : (s : tie.Start) → length (s .args .t1 .jobs) ≡ 224
 jobs-long s = search needs
 
-few-made : (s : tie.Start) → s .args .t1 .lifts + s .args .t1 .pushes ≤ 491176
+few-made : (s : tie.Start) → s .args .t1 .lifts + s .args .t1 .pushes ≤ 549976
 few-made s = let v = s .pre .0 .3 in few-steps (v .reads) (s .args .t1) (v .tracks .counted)
 
 -- ---- the job just below

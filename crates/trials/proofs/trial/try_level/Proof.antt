@@ -30,7 +30,7 @@ ended c I w e = c .run .ensures I _ (starts w _ _ e)
 loads-long : (c : tie.After-run) → length (c .run .result .loads) ≡ 24
 loads-long c = search needs
 
-places-long : (c : tie.After-run) → length (c .run .result .places) ≡ 200
+places-long : (c : tie.After-run) → length (c .run .result .places) ≡ 224
 places-long c = search needs
 
 -- a machine is overloaded

@@ -12,19 +12,19 @@ use Rattle.written.proofs.write.put_batches.Statement.{statement}
 use Rattle.written.proofs.write.put_batches.Tie as tie
 
 abbrev Inv-loop : tie.InvT-loop
-Inv-loop out₀ n minutes places counts lists at₀ b₀ out at b =
-    Wrote out₀ 13 (linesTo minutes places counts lists b) (linesLength counts b) out × (length out ≡ length out₀) × (b ≤ n)
-    × (at ≡ 13 + linesLength counts b)
+Inv-loop out₀ start n minutes places counts lists at₀ b₀ out at b =
+    Wrote out₀ start (linesTo minutes places counts lists b) (linesLength counts b) out × (length out ≡ length out₀) × (b ≤ n)
+    × (at ≡ start + linesLength counts b)
 
 abbrev μ-loop : tie.MeasureT-loop
-μ-loop out₀ n minutes places counts lists at₀ b₀ out at b = n - b
+μ-loop out₀ start n minutes places counts lists at₀ b₀ out at b = n - b
 
 loop-holds : tie.Need-loop-holds Inv-loop μ-loop
 loop-holds c =
     let a = c .before .before .before .before .before .args in
     let z = length-none (a .counts .now) in
     rw (z, lines-none (a .minutes .now) (a .places .now) (a .counts .now) (a .lists .now))
-    (wrote-none (a .out .now) 13 (omega arith), refl, omega arith, refl)
+    (wrote-none (a .out .now) (a .start) (omega arith), refl, omega arith, omega arith)
 
 -- the rows, and how many instruments the batch at hand has
 rows : (c : tie.Start Inv-loop μ-loop) → Rows (c .args .counts .now) (c .args .lists .now) (c .args .n)
@@ -109,7 +109,7 @@ returns c =
     let a = c .before .before .before .before .before .before .before .args in
     let e : l .b ≡ a .n = omega arith in
     l .inv .0 .text
-    ∙ ap (λ (i : ℕ). paste (a .out .now) 13 (linesTo (a .minutes .now) (a .places .now) (a .counts .now) (a .lists .now) i) (linesLength (a .counts .now) i)) e
+    ∙ ap (λ (i : ℕ). paste (a .out .now) (a .start) (linesTo (a .minutes .now) (a .places .now) (a .counts .now) (a .lists .now) i) (linesLength (a .counts .now) i)) e
 
 pub put-batches-spec : {M : Type 1} → statement M
 put-batches-spec =

@@ -1,0 +1,118 @@
+-- Calibrations as batches (document 02, C-16): each is a good batch that may run only where it stands, so every permitted assignment has
+-- it there.
+use Prim.Native.Nat.{ℕ, zero, suc, _+_, _≤_, _<_}
+use mathlib.Core.Path.{_≡_, refl, ap, ap₂}
+use mathlib.Core.Bool.{true, false}
+use mathlib.Core.List.{List, [], _∷_, _++_, map}
+use native.Mathlib.Nat.{le-refl}
+use native.Mathlib.Omega.{arith}
+use lib.ListN.{length, getD, length-append}
+use lib.Dec.{leb}
+use borrow.Author.Tests.{leb-true, leb-false, le-leb}
+use Rattle.rules.specs.Fold.{at, mem, every, anyTo}
+use Rattle.rules.specs.Sheet.{Batch, noBatchHere, isInstrument, distinct, goodMinutes, goodCalibration, goodList, goodBatch}
+use Rattle.rules.specs.Instance.{Assignment, calibrationOf, calibrationsTo}
+use Rattle.theory.proofs.Logic.{conflict, and-mk, or-none, or-cases}
+use Rattle.theory.proofs.Member.{mem-one, mem-head, every-append, every-one, every-at}
+
+-- ---- batches that may run only where they stand
+
+pub data Fixed : List Batch → Type 0 where
+  none : Fixed []
+  more : (c : Batch) (cs : List Batch) → c .list ≡ c .place ∷ [] → Fixed cs → Fixed (c ∷ cs)
+
+fixed-append : {bs cs : List Batch} → Fixed bs → Fixed cs → Fixed (bs ++ cs)
+fixed-append none h = h
+fixed-append (more c cs e f) h = more c _ e (fixed-append f h)
+
+-- where each of an assignment's places is listed, they are those where the batches stand
+pub fixed-places : {bs : List Batch} (x : Assignment) → Fixed bs → length x ≡ length bs
+    → ((b : ℕ) → b < length bs → mem (getD x b 0) (getD bs b noBatchHere .list) ≡ true) → x ≡ map (λ (b : Batch). b .place) bs
+fixed-places [] none e h = refl
+fixed-places (p ∷ x) none e h = absurd (omega arith)
+fixed-places [] (more c cs q f) e h = absurd (omega arith)
+fixed-places (p ∷ x) (more c cs q f) e h =
+    let first : mem p (c .list) ≡ true = h 0 (omega arith) in
+    let there : p ≡ c .place = mem-one (c .place) p (rw q at first) in
+    ap₂ (λ (a : ℕ) (l : List ℕ). a ∷ l) there (fixed-places x f (omega arith) (λ b l. h (suc b) (omega arith)))
+
+-- ---- calibrations
+
+calibration-fixed : (i t : ℕ) → Fixed (calibrationOf i t)
+calibration-fixed i zero = none
+calibration-fixed i (suc t) = more _ [] refl none
+
+pub calibrations-fixed : (l : List ℕ) (c : ℕ) → Fixed (calibrationsTo l c)
+unfolding calibrationsTo
+calibrations-fixed l zero = none
+calibrations-fixed l (suc c) = fixed-append (calibrations-fixed l c) (calibration-fixed (suc c) (at l (suc c)))
+
+-- by the first c entries alone
+pub calibrations-ext : (l k : List ℕ) (c : ℕ) → ((i : ℕ) → 0 < i → i ≤ c → at l i ≡ at k i) → calibrationsTo l c ≡ calibrationsTo k c
+unfolding calibrationsTo
+calibrations-ext l k zero h = refl
+calibrations-ext l k (suc c) h =
+    ap₂ (λ (a b : List Batch). a ++ b) (calibrations-ext l k c (λ i p q. h i p (omega arith)))
+    (ap (calibrationOf (suc c)) (h (suc c) (omega arith) (le-refl (suc c))))
+
+calibration-few : (i t : ℕ) → length (calibrationOf i t) ≤ 1
+calibration-few i zero = omega arith
+calibration-few i (suc t) = omega arith
+
+calibration-some : (i t : ℕ) → 0 < t → 0 < length (calibrationOf i t)
+calibration-some i zero h = absurd (omega arith)
+calibration-some i (suc t) h = omega arith
+
+pub calibrations-few : (l : List ℕ) (c : ℕ) → length (calibrationsTo l c) ≤ c
+unfolding calibrationsTo
+calibrations-few l zero = omega arith
+calibrations-few l (suc c) =
+    omega (
+      arith,
+      length-append (calibrationsTo l c) (calibrationOf (suc c) (at l (suc c))),
+      calibrations-few l c,
+      calibration-few (suc c) (at l (suc c)),
+    )
+
+-- one above 0 is among them
+pub calibrations-some : (l : List ℕ) (c : ℕ) → anyTo c (λ i. leb 1 (at l i)) ≡ true → 0 < length (calibrationsTo l c)
+unfolding calibrationsTo anyTo
+calibrations-some l zero e = conflict e refl
+calibrations-some l (suc c) e =
+    let long = length-append (calibrationsTo l c) (calibrationOf (suc c) (at l (suc c))) in
+    or-cases (anyTo c (λ i. leb 1 (at l i))) (leb 1 (at l (suc c))) e
+    (λ t. omega (arith, long, calibrations-some l c t))
+    (λ t. omega (arith, long, calibration-some (suc c) (at l (suc c)) (leb-true 1 (at l (suc c)) t)))
+
+-- and where none is above 0 there is none
+pub calibrations-none : (l : List ℕ) (c : ℕ) → anyTo c (λ i. leb 1 (at l i)) ≡ false → length (calibrationsTo l c) ≡ 0
+unfolding calibrationsTo anyTo
+calibrations-none l zero e = refl
+calibrations-none l (suc c) e =
+    let h = or-none (anyTo c (λ i. leb 1 (at l i))) (leb 1 (at l (suc c))) e in
+    let z : at l (suc c) ≡ 0 = omega (arith, leb-false 1 (at l (suc c)) (h .1)) in
+    omega (
+      arith,
+      length-append (calibrationsTo l c) (calibrationOf (suc c) (at l (suc c))),
+      calibrations-none l c (h .0),
+      ap (λ (t : ℕ). length (calibrationOf (suc c) t)) z,
+    )
+
+calibration-good : (m i t : ℕ) → 0 < i → i ≤ m → goodCalibration t ≡ true → every (goodBatch m) (calibrationOf i t) ≡ true
+unfolding every goodBatch goodMinutes goodList isInstrument distinct mem goodCalibration
+calibration-good m i zero p q e = refl
+calibration-good m i (suc t) p q e =
+    let s : suc t ≤ 240 = leb-true (suc t) 240 e in
+    let one : isInstrument m i ≡ true = and-mk _ _ (le-leb 1 i p) (le-leb i m q) in
+    every-one (goodBatch m) (record { minutes = suc t; list = i ∷ []; place = i })
+    (and-mk _ _ (and-mk _ _ (le-leb 1 (suc t) (omega arith)) (le-leb (suc t) 1440 (omega arith)))
+    (and-mk _ _ (and-mk _ _ (le-leb 1 1 (omega arith)) (and-mk _ _ (le-leb 1 m (omega arith)) (and-mk _ _ (and-mk _ _ one refl) (and-mk _ _ refl refl))))
+    (mem-head i [])))
+
+pub calibrations-good : (m : ℕ) (l : List ℕ) (c : ℕ) → length l ≡ m → c ≤ m → every goodCalibration l ≡ true
+    → every (goodBatch m) (calibrationsTo l c) ≡ true
+unfolding calibrationsTo every
+calibrations-good m l zero w h e = refl
+calibrations-good m l (suc c) w h e =
+    every-append (goodBatch m) (calibrationsTo l c) (calibrationOf (suc c) (at l (suc c))) (calibrations-good m l c w (omega arith) e)
+    (calibration-good m (suc c) (at l (suc c)) (omega arith) h (every-at goodCalibration l 0 c e (omega arith)))
