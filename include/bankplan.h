@@ -13,7 +13,7 @@
  *   - No pointer is null, not even beside a length of 0. Any valid pointer will do there.
  *   - The lent buffer and the lent list overlap neither each other nor the sheet nor the journal, and no other thread uses them until the
  *     call returns. Nothing writes to the sheet or the journal meanwhile.
- *   - The thread has 128 kB of stack left. (Calls were measured at 103 kB; this is not proved.)
+ *   - The thread has 128 kB of stack left. (Calls were measured at 104 kB; this is not proved.)
  *
  * What the library promises:
  *   - It reads only the sheet and the journal, and writes only to the lent buffer and the lent list, at their fronts. Bytes past the text
