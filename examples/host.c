@@ -29,7 +29,7 @@ static const char *words(uint32_t refusal)
     case BANKPLAN_BAD_SIZE: return "number of instruments or batches out of range";
     case BANKPLAN_BAD_LENGTH: return "length out of range";
     case BANKPLAN_BAD_LIST: return "bad list of qualified instruments";
-    case BANKPLAN_BAD_PLACE: return "place not in the list";
+    case BANKPLAN_BAD_PLACE: return "place not in the list, or none for a started batch";
     case BANKPLAN_BUFFER_SHORT: return "buffer too short";
     case BANKPLAN_BAD_CALIBRATION: return "calibration out of range";
     case BANKPLAN_BAD_JOURNAL: return "not of a journal's form";

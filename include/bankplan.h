@@ -13,7 +13,7 @@
  *   - No pointer is null, not even beside a length of 0. Any valid pointer will do there.
  *   - The lent buffer and the lent list overlap neither each other nor the sheet nor the journal, and no other thread uses them until the
  *     call returns. Nothing writes to the sheet or the journal meanwhile.
- *   - The thread has 128 kB of stack left. (Calls were measured at 104 kB; this is not proved.)
+ *   - The thread has 128 kB of stack left. (Calls were measured at 113 kB; this is not proved.)
  *
  * What the library promises:
  *   - It reads only the sheet and the journal, and writes only to the lent buffer and the lent list, at their fronts. Bytes past the text
@@ -30,6 +30,9 @@
  * An instrument is calibrated after it is switched on, whether or not a batch is run on it. A calibration above 0 counts as a batch that only
  * its own instrument may run: in loads, finish, floor and total minutes, as the longest, and in a trial's raises and bumps. It is no batch
  * of the sheet, though: it is neither listed nor moved nor edited, and needs no entry of a list. Other plans have the same calibrations.
+ *
+ * Once a batch has started, its place is the only instrument that may run it, whatever its list: it never gains and never moves, and a trial
+ * that bumps it puts it back. The list is only written back. Other plans leave started batches where they are.
  */
 #ifndef BANKPLAN_H
 #define BANKPLAN_H
@@ -54,24 +57,26 @@ extern "C" {
 #define BANKPLAN_LONGEST_ANSWER 3793
 
 /* The largest written sheet in bytes: a buffer of this size is never too short for bankplan_write, bankplan_balance and bankplan_settle. */
-#define BANKPLAN_LARGEST_SHEET 32758
+#define BANKPLAN_LARGEST_SHEET 33958
 
 /*
- * Refusals. 1 to 5 and 10 are those of a sheet, and come with the line. 3 to 9 are those of a single call of a journal: they stand in its
- * answers, and the run goes on. 9 and 19 are the host's own.
+ * Refusals. 1 to 5 and 10 are those of a sheet, and come with the line. 3 to 9 and 11 are those of a single call of a journal: they stand in
+ * its answers, and the run goes on. 9 and 19 are the host's own.
  */
 enum bankplan_refusal {
     BANKPLAN_NO_REFUSAL = 0,
-    BANKPLAN_MALFORMED = 1,        /* the sheet is not of its form, a field other than a place is blank, or bytes are missing or left over */
+    BANKPLAN_MALFORMED = 1,        /* the sheet is not of its form, a mark is not 0 or 1, a field other than a place is blank, or bytes are
+                                      missing or left over */
     BANKPLAN_BAD_SIZE = 2,         /* instruments not 1 to 24, or batches more than 200 */
     BANKPLAN_BAD_LENGTH = 3,       /* a length that is not 1 to 1440 minutes */
     BANKPLAN_BAD_LIST = 4,         /* qualified list empty, too long, with an instrument that is not there, or one twice */
-    BANKPLAN_BAD_PLACE = 5,        /* a place that is not in the batch's list */
+    BANKPLAN_BAD_PLACE = 5,        /* a place that is not in the batch's list, or none given for a started batch */
     BANKPLAN_NO_BATCH = 6,         /* no batch of that number */
     BANKPLAN_SHEET_FULL = 7,       /* a batch more than 200 */
     BANKPLAN_LEVEL_ABOVE = 8,      /* a trial's level above the total minutes */
     BANKPLAN_BUFFER_SHORT = 9,     /* the lent buffer is shorter than the text, or the list for records has fewer entries than batches */
     BANKPLAN_BAD_CALIBRATION = 10, /* a calibration that is not 0 to 240 minutes */
+    BANKPLAN_HAS_STARTED = 11,     /* the batch to withdraw, requalify, move or start has started */
     BANKPLAN_BAD_JOURNAL = 19      /* the journal is not of its form */
 };
 
@@ -118,8 +123,8 @@ typedef struct bankplan_settled {
  * Plans a sheet, and writes its listing at the front of the lent buffer.
  *
  * A sheet: line 1 has the numbers of instruments and of batches. Line 2 has each instrument's calibration in minutes, 0 for none. Then
- * each batch has a line: its length in minutes, its place (0 or six blanks: the first listed instrument), how many instruments are
- * qualified, and those. Nothing follows the last line.
+ * each batch has a line: its length in minutes, its place (0 or six blanks: the first listed instrument), its mark (1 where it has started,
+ * otherwise 0), how many instruments are qualified, and those. A started batch has its place given. Nothing follows the last line.
  *
  * A listing: line 1 has the finish, the floor that no plan can beat, the level, raises and bumps of the trial kept, and the settling
  * moves. Line 2 has the size and the instruments of the group of the highest level that failed, or 0 where none failed; where the floor is
@@ -129,7 +134,7 @@ typedef struct bankplan_settled {
  * that of balance.
  *
  * The first fault in the sheet decides which of 1 to 5 or 10 is answered; 9 comes only for a sheet without a fault. A sheet without line 2,
- * as it was before there were calibrations, is refused.
+ * as it was before there were calibrations, is refused, and so is one whose batches have no marks.
  */
 bankplan_answer bankplan_plan(const uint8_t *sheet, size_t sheet_length, uint8_t *listing, size_t listing_length);
 
@@ -147,6 +152,7 @@ bankplan_answer bankplan_plan(const uint8_t *sheet, size_t sheet_length, uint8_t
  *   6 LEVEL                       a single trial; the sheet stays as it is
  *   7 ENTRIES                     balance; the sheet gets the new places
  *   8 ENTRIES                     settle; the sheet gets the new places
+ *   9 BATCH                       start a batch where it stands
  *
  * Any number that six columns hold is of the form: the call itself refuses a wrong one. ENTRIES is the length of a list for the records of
  * moves; none is lent, and the records stand in the answer. Fewer entries than the sheet has batches at that call is 9; 200 always do.
@@ -160,9 +166,11 @@ bankplan_answer bankplan_plan(const uint8_t *sheet, size_t sheet_length, uint8_t
  *   7        0 FINISH FLOOR LEVEL RAISES BUMPS SIZE INSTRUMENT.. COUNT BATCH FROM TO..
  *                                                   the group's size and the group; how many records, and three numbers for each
  *   8        0 FINISH MOVES COUNT BATCH FROM TO..   the settling moves, in twelve columns; how many records, and those
+ *   9        0
  *
  * The order of refusals: 1 to 5 or 10 for the sheet, then 19 for the journal, then 9. A journal is judged whole before its first call is
- * made. On 9, call again with a larger buffer: the answers are the same.
+ * made. On 9, call again with a larger buffer: the answers are the same. Within one call: add 7, 3, 4; withdraw and start 6, 11; requalify
+ * 6, 11, 4; move 6, 11, 5.
  */
 bankplan_answer bankplan_run(const uint8_t *sheet, size_t sheet_length, const uint8_t *journal, size_t journal_length,
                              uint8_t *answers, size_t answers_length);
@@ -172,8 +180,9 @@ bankplan_answer bankplan_run(const uint8_t *sheet, size_t sheet_length, const ui
  * journal writes the sheet back.
  *
  * The written sheet is one that can be read, and reading it gives the very sheet that the calls left, so the next journal may start
- * from it. Every place is the true one, never 0 or blank, and lists keep their order; line 2 is that of the sheet that was read. A sheet
- * written back has as many bytes as the one that was read, and differs from it at most in places that were 0 or blank.
+ * from it. Every place is the true one, never 0 or blank, and lists keep their order, those of started batches too; line 2 is that of the
+ * sheet that was read. A sheet written back has as many bytes as the one that was read, and differs from it at most in places that were 0
+ * or blank.
  *
  * Refusals and their order are those of bankplan_run. A call of the journal that is refused leaves the sheet as it was, and the run goes
  * on; only bankplan_run's answers tell which one it was.
@@ -186,7 +195,8 @@ bankplan_answer bankplan_write(const uint8_t *sheet, size_t sheet_length, const 
  * the form of bankplan_write, at the front of the lent buffer. The length of the list counts entries.
  *
  * There is one record for each batch whose place differs afterwards, ascending by batch. The finish is no later than it was; on a sheet
- * with a batch or a calibration above 0 it is above that of any plan on qualified instruments by less than the longest of them.
+ * with a batch or a calibration above 0 it is above that of any plan on qualified instruments by less than the longest of them. Such a plan
+ * leaves started batches where they are.
  *
  * The order of refusals: 1 to 5 or 10 for the sheet; then 9 where the list has fewer entries than the sheet has batches, however many
  * records there are; then 9 where the buffer is shorter than the written sheet.

@@ -23,7 +23,7 @@ while IFS=: read -r file name; do
 done < <(grep -oE '`crates/[^`]+:[^`]+`' docs/DEMANDS.md | tr -d '`')
 while read -r file; do
     [ -f "$file" ] || { echo "docs/DEMANDS.md names $file, which is not there" >&2; bad=1; }
-done < <(grep -oE '`crates/[^`:]+\.edit`' docs/DEMANDS.md | tr -d '`')
+done < <(grep -oE '`(crates|tests/edits)/[^`:]+\.edit`' docs/DEMANDS.md | tr -d '`')
 [ "$count" -gt 0 ] || { echo "docs/DEMANDS.md names nothing" >&2; exit 1; }
 [ "$bad" = 0 ] && echo "docs/DEMANDS.md: $count names, all there"
 exit "$bad"

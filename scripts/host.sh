@@ -44,6 +44,13 @@ printf '%s\n' "    40    40    20     2     2           1" "     2     1     2" 
 [ "$(grep -c '^midday: finish 40, settling moves 2$' "$work/out")" = 1 ] || fail "the example settles a sheet with calibrations in another way"
 [ "$(grep -c '^    20     0$' "$work/out")" = 2 ] || fail "the example loses the calibrations"
 
+# the same sheet with its first batch started: the third goes in its stead, and the mark is kept
+[ "$(diff examples/sheet.txt examples/started.txt | grep -c '^[<>]')" = 2 ] || fail "examples/started.txt differs in more than one line"
+"$work/host" examples/started.txt "$work/empty" >"$work/out" || fail "the example did not end well on a sheet with a started batch"
+head -n 5 "$work/out" | diff examples/started-listing.txt - >&2 || fail "the example plans a sheet with a started batch in another way"
+[ "$(grep -c '^midday: finish 50, settling moves 1$' "$work/out")" = 1 ] || fail "the example settles a sheet with a started batch in another way"
+[ "$(grep -c '^    30     1     1     2     1     2$' "$work/out")" = 2 ] || fail "the example loses or moves the started batch"
+
 # refused TEXT WORDS..: the example on these files ends with 1, and TEXT is all that it says
 refused() {
     local said=$1 status=0
@@ -69,13 +76,38 @@ refused "host: journal: line 8: refusal 19, not of a journal's form" "$top/examp
 sed '2s/^    20/   241/' "$top/examples/calibrated.txt" >sheet
 refused "host: sheet: line 2: refusal 10, calibration out of range" sheet "$top/examples/journal.txt"
 [ ! -s out ] || fail "the example prints something for a refused calibration"
-# a sheet without line 2, as it was before there were calibrations
-sed 2d "$top/examples/sheet.txt" >sheet
-refused "host: sheet: line 2: refusal 1, not of a sheet's form" sheet "$top/examples/journal.txt"
-# and README's command for such sheets adds it
-bring=$(sed -n "s/^    \(awk .*\) OLD > NEW$/\1 sheet/p" "$top/README.md")
-[ -n "$bring" ] || fail "README.md has no command that adds line 2"
-bash -c "$bring" | cmp -s - "$top/examples/sheet.txt" || fail "README.md's command makes another sheet than examples/sheet.txt"
+sed '3s/^\(............\)     1/\1     2/' "$top/examples/started.txt" >sheet
+refused "host: sheet: line 3: refusal 1, not of a sheet's form" sheet "$top/examples/journal.txt"
+sed '3s/^    30     1/    30      /' "$top/examples/started.txt" >sheet
+refused "host: sheet: line 3: refusal 5, place not in the list, or none for a started batch" sheet "$top/examples/journal.txt"
+# sheets of older forms: without marks, and without line 2 too
+sed '3,$s/^\(............\)     0/\1/' "$top/examples/calibrated.txt" >unmarked
+refused "host: unmarked: line 3: refusal 1, not of a sheet's form" unmarked "$top/examples/journal.txt"
+sed -e '3,$s/^\(............\)     0/\1/' -e 2d "$top/examples/sheet.txt" >uncalibrated
+refused "host: uncalibrated: line 2: refusal 1, not of a sheet's form" uncalibrated "$top/examples/journal.txt"
+# bring NUMBER FILE: README's command of that number on the file
+bring() {
+    bash -c "$(sed -n "$1p" bring) $2"
+}
+# and README's two commands bring them along, one kind each
+sed -n 's/^    \(awk .*\) OLD > NEW$/\1/p' "$top/README.md" >bring
+[ "$(wc -l <bring)" = 2 ] || fail "README.md has not two commands for sheets of older forms"
+bring 1 unmarked | cmp -s - "$top/examples/calibrated.txt" || fail "README.md's command does not add the marks"
+bring 2 uncalibrated | cmp -s - "$top/examples/sheet.txt" || fail "README.md's command does not add line 2 and the marks"
+# but a sheet that went through the wrong one, or through one twice, is refused
+for name in sheet calibrated blank started; do
+    sed '3,$s/^\(............\)....../\1/' "$top/examples/$name.txt" >unmarked
+    sed 2d unmarked >uncalibrated
+    bring 1 unmarked >marked
+    bring 2 uncalibrated >calibrated
+    for pair in "2 unmarked" "1 uncalibrated" "1 marked" "2 calibrated"; do
+        bring ${pair% *} ${pair#* } >astray
+        status=0
+        ./host astray "$top/examples/journal.txt" >out 2>said || status=$?
+        [ "$status" = 1 ] && [ ! -s out ] && grep -q '^host: astray: line [0-9]*: refusal ' said ||
+            fail "README.md's command ${pair% *} makes a sheet of $name.txt, ${pair#* }"
+    done
+done
 refused "host: none: No such file or directory" none journal
 
 ./boundary || fail "the calls are not as they should be at their edges"

@@ -126,9 +126,9 @@ static int refused_settle(bankplan_settled z, uint32_t refusal, size_t line)
 
 static const char sheet[] = "     2     3\n"
                             "     0     0\n"
-                            "    30     1     2     1     2\n"
-                            "    20     1     1     1\n"
-                            "    10     1     2     1     2\n";
+                            "    30     1     0     2     1     2\n"
+                            "    20     1     0     1     1\n"
+                            "    10     1     0     2     1     2\n";
 static const char listing[] = "    30    30     0     2     2           0\n"
                               "     0\n"
                               "     1     2    30\n"
@@ -136,7 +136,7 @@ static const char listing[] = "    30    30     0     2     2           0\n"
                               "     3     1    10\n";
 static const char too_long[] = "     1     1\n"
                                "     0\n"
-                               "  1441     0     1     1\n";
+                               "  1441     0     0     1     1\n";
 static const char journal[] = "     4     3     2\n"
                               "     4     9     2\n"
                               "     5\n";
@@ -145,32 +145,32 @@ static const char answers[] = "     0\n"
                               "     0    50     1    50    10\n";
 static const char written[] = "     2     3\n"
                               "     0     0\n"
-                              "    30     1     2     1     2\n"
-                              "    20     1     1     1\n"
-                              "    10     2     2     1     2\n";
+                              "    30     1     0     2     1     2\n"
+                              "    20     1     0     1     1\n"
+                              "    10     2     0     2     1     2\n";
 
 /* what balance and settle leave of the sheet above, and their one record */
 static const char planned[] = "     2     3\n"
                               "     0     0\n"
-                              "    30     2     2     1     2\n"
-                              "    20     1     1     1\n"
-                              "    10     1     2     1     2\n";
+                              "    30     2     0     2     1     2\n"
+                              "    20     1     0     1     1\n"
+                              "    10     1     0     2     1     2\n";
 static const bankplan_move first_goes[] = {{1, 1, 2}};
 /* settling moves batch 2 away and back, and batch 4 in between */
 static const char returning[] = "     3     4\n"
                                 "     0     0     0\n"
-                                "     1     3     1     3\n"
-                                "     4     3     2     2     3\n"
-                                "     2     2     1     2\n"
-                                "     2     3     2     1     3\n";
+                                "     1     3     0     1     3\n"
+                                "     4     3     0     2     2     3\n"
+                                "     2     2     0     1     2\n"
+                                "     2     3     0     2     1     3\n";
 static const bankplan_move fourth_goes[] = {{4, 3, 1}};
 /* balance leaves it, with a group of two; settling moves two batches */
 static const char unsettled[] = "     2     4\n"
                                 "     0     0\n"
-                                "     2     2     1     2\n"
-                                "     4     1     2     2     1\n"
-                                "     5     1     2     2     1\n"
-                                "     2     2     2     1     2\n";
+                                "     2     2     0     1     2\n"
+                                "     4     1     0     2     2     1\n"
+                                "     5     1     0     2     2     1\n"
+                                "     2     2     0     2     1     2\n";
 static const bankplan_move two_go[] = {{2, 1, 2}, {4, 2, 1}};
 
 static void sheets(void)
@@ -181,14 +181,14 @@ static void sheets(void)
     CHECK(answered(plan("     2     1\n", ROOM), BANKPLAN_MALFORMED, 2, 0) && holds(""));
     CHECK(answered(plan("     2     1\n     0     0\n", ROOM), BANKPLAN_MALFORMED, 3, 0) && holds(""));
     CHECK(answered(plan("    25     0\n", ROOM), BANKPLAN_BAD_SIZE, 1, 0) && holds(""));
-    CHECK(answered(plan("     2     1\n     0     0\n    10     0     2     1     1\n", ROOM), BANKPLAN_BAD_LIST, 3, 0) && holds(""));
-    CHECK(answered(plan("     2     1\n     0     0\n    10     2     1     1\n", ROOM), BANKPLAN_BAD_PLACE, 3, 0) && holds(""));
+    CHECK(answered(plan("     2     1\n     0     0\n    10     0     0     2     1     1\n", ROOM), BANKPLAN_BAD_LIST, 3, 0) && holds(""));
+    CHECK(answered(plan("     2     1\n     0     0\n    10     2     0     1     1\n", ROOM), BANKPLAN_BAD_PLACE, 3, 0) && holds(""));
     /* a blank place is none given; five blanks, and a blank elsewhere, are not of the form */
-    CHECK(answered(plan("     2     1\n     0     0\n    10           2     2     1\n", ROOM), 0, 0, 43 + 7 + 19) &&
+    CHECK(answered(plan("     2     1\n     0     0\n    10           0     2     2     1\n", ROOM), 0, 0, 43 + 7 + 19) &&
           holds("    10    10     0     0     0           0\n     0\n     1     2    10\n"));
     CHECK(answered(plan("     2     1\n     0     0\n    10     ", ROOM), BANKPLAN_MALFORMED, 3, 0) && holds(""));
-    CHECK(answered(plan("     2     1\n     0     0\n           1     1     1\n", ROOM), BANKPLAN_MALFORMED, 3, 0) && holds(""));
-    CHECK(answered(plan("     2     1\n     0     0\n    10     1           1\n", ROOM), BANKPLAN_MALFORMED, 3, 0) && holds(""));
+    CHECK(answered(plan("     2     1\n     0     0\n           1     0     1     1\n", ROOM), BANKPLAN_MALFORMED, 3, 0) && holds(""));
+    CHECK(answered(plan("     2     1\n     0     0\n    10     1     0           1\n", ROOM), BANKPLAN_MALFORMED, 3, 0) && holds(""));
     /* a sheet's fault comes before a short buffer */
     CHECK(answered(plan(too_long, 0), BANKPLAN_BAD_LENGTH, 3, 0) && holds(""));
     CHECK(answered(write_back(too_long, "", 0), BANKPLAN_BAD_LENGTH, 3, 0) && holds(""));
@@ -204,9 +204,9 @@ static void written_sheets(void)
     CHECK(answered(write_back(sheet, "     2     3\n     2     2\n     2     1\n", ROOM), 0, 0, 26) &&
           holds("     2     0\n     0     0\n"));
     /* places that are 0 or blank are filled in, and lists keep their order */
-    CHECK(answered(write_back("     2     2\n     0   240\n    10           2     2     1\n    15     0     1     1\n", "", ROOM), 0, 0,
-                   13 + 13 + 31 + 25) &&
-          holds("     2     2\n     0   240\n    10     2     2     2     1\n    15     1     1     1\n"));
+    CHECK(answered(write_back("     2     2\n     0   240\n    10           0     2     2     1\n    15     0     0     1     1\n", "", ROOM), 0, 0,
+                   13 + 13 + 37 + 31) &&
+          holds("     2     2\n     0   240\n    10     2     0     2     2     1\n    15     1     0     1     1\n"));
 }
 
 /* Line 2 at its edges, and what calibrations count for. */
@@ -239,12 +239,76 @@ static void calibrations(void)
     CHECK(answered(plan("     2     0\n     0\n", ROOM), BANKPLAN_MALFORMED, 2, 0) && holds(""));
     CHECK(answered(plan("     2     0\n     0     0     0\n", ROOM), BANKPLAN_MALFORMED, 2, 0) && holds(""));
     CHECK(answered(plan("     2     0\n", ROOM), BANKPLAN_MALFORMED, 2, 0) && holds(""));
-    CHECK(answered(plan("     2     1\n    30     1     2     1     2\n", ROOM), BANKPLAN_MALFORMED, 2, 0) && holds(""));
+    CHECK(answered(plan("     2     1\n    30     1     0     2     1     2\n", ROOM), BANKPLAN_MALFORMED, 2, 0) && holds(""));
     CHECK(answered(plan("     2     0\n     0     0\n ", ROOM), BANKPLAN_MALFORMED, 3, 0) && holds(""));
     /* one batch of 20 and calibrations 10, 0 and 10: in the trial the first calibration is bumped and goes back, and is no place */
-    CHECK(answered(run("     3     1\n    10     0    10\n    20     3     3     1     2     3\n", "     6     0\n     7     1\n", ROOM), 0, 0,
+    CHECK(answered(run("     3     1\n    10     0    10\n    20     3     0     3     1     2     3\n", "     6     0\n     7     1\n", ROOM), 0, 0,
                    31 + 67) &&
           holds("     0     1     5     6     2\n     0    20    20     0     5     6     0     1     1     3     2\n"));
+}
+
+/* Marks at their edges, what an edit of a started batch is refused with, and that no call moves one. */
+static void started(void)
+{
+    static const char begun[] = "     2     3\n"
+                                "     0     0\n"
+                                "    30     1     1     2     1     2\n"
+                                "    20     1     0     1     1\n"
+                                "    10     1     0     2     1     2\n";
+    /* what balance and settle leave of it: the third goes, in the first's stead */
+    static const char third[] = "     2     3\n"
+                                "     0     0\n"
+                                "    30     1     1     2     1     2\n"
+                                "    20     1     0     1     1\n"
+                                "    10     2     0     2     1     2\n";
+    static const bankplan_move third_goes[] = {{3, 1, 2}};
+    static const char all[] = "     2     2\n"
+                              "     0     0\n"
+                              "    30     1     1     2     1     2\n"
+                              "    10     1     1     2     2     1\n";
+    static const char bad[] = "     2     1\n     0     0\n    10     1     2     0\n";
+    static const char none[] = "     2     1\n     0     0\n    10     0     1     1     1\n";
+    bankplan_balanced b;
+    bankplan_settled z;
+
+    CHECK(answered(plan(begun, ROOM), 0, 0, 43 + 13 + 3 * 19) &&
+          holds("    50    50    20     4     6           0\n     1     1\n     1     1    30\n     2     1    20\n     3     2    10\n"));
+    CHECK(answered(write_back(begun, "", ROOM), 0, 0, strlen(begun)) && holds(begun));
+    b = balance(begun, 3, ROOM);
+    CHECK(b.refusal == 0 && b.finish == 50 && b.floor == 50 && b.level == 20 && b.raises == 4 && b.bumps == 6 && b.size == 1 &&
+          b.group[0] == 1 && b.records == 1 && lists(third_goes, 1) && b.length == strlen(third) && holds(third));
+    z = settle(begun, 3, ROOM);
+    CHECK(z.refusal == 0 && z.finish == 50 && z.moves == 1 && z.records == 1 && lists(third_goes, 1) && holds(third));
+    /* all have started: nothing moves */
+    b = balance(all, 2, ROOM);
+    CHECK(b.refusal == 0 && b.finish == 40 && b.floor == 40 && b.level == 10 && b.raises == 0 && b.bumps == 0 && b.size == 1 &&
+          b.group[0] == 1 && b.records == 0 && lists(NULL, 0) && holds(all));
+    z = settle(all, 2, ROOM);
+    CHECK(z.refusal == 0 && z.finish == 40 && z.moves == 0 && z.records == 0 && lists(NULL, 0) && holds(all));
+    CHECK(answered(run(all, "     5\n", ROOM), 0, 0, 31) && holds("     0    40     0    40     0\n"));
+    /* 6 before 11, and 11 before 4 and 5 */
+    CHECK(answered(run(begun, "     9     4\n     9     1\n     2     1\n     3     1     0\n     4     1     0\n     4     1     1\n", ROOM), 0, 0,
+                   6 * 7) &&
+          holds("     6\n    11\n    11\n    11\n    11\n    11\n"));
+    CHECK(answered(run(begun, "     2     0\n     3     4     0\n     4     4     0\n     3     2     0\n     4     2     0\n", ROOM), 0, 0,
+                   5 * 7) &&
+          holds("     6\n     6\n     6\n     4\n     5\n"));
+    CHECK(answered(run(sheet, "     9     1\n     9     1\n     8     3\n", ROOM), 0, 0, 7 + 7 + 49) &&
+          holds("     0\n    11\n     0    50           1     1     3     1     2\n"));
+    CHECK(answered(write_back(sheet, "     9     1\n     2     1\n", ROOM), 0, 0, strlen(begun)) && holds(begun));
+    /* another mark than 0 or 1, judged before the count; a blank one; no place beside a mark of 1; a sheet without marks */
+    CHECK(answered(plan(bad, ROOM), BANKPLAN_MALFORMED, 3, 0) && holds(""));
+    CHECK(answered(run(bad, "\n", ROOM), BANKPLAN_MALFORMED, 3, 0) && holds(""));
+    CHECK(answered(write_back(bad, "", 0), BANKPLAN_MALFORMED, 3, 0) && holds(""));
+    CHECK(refused_balance(balance(bad, 0, 0), BANKPLAN_MALFORMED, 3));
+    CHECK(refused_settle(settle(bad, ENTRIES, ROOM), BANKPLAN_MALFORMED, 3));
+    CHECK(answered(plan("     2     1\n     0     0\n    10     1           1     1\n", ROOM), BANKPLAN_MALFORMED, 3, 0) && holds(""));
+    CHECK(answered(plan(none, ROOM), BANKPLAN_BAD_PLACE, 3, 0) && holds(""));
+    CHECK(refused_balance(balance(none, 0, 0), BANKPLAN_BAD_PLACE, 3));
+    CHECK(refused_settle(settle(none, ENTRIES, ROOM), BANKPLAN_BAD_PLACE, 3));
+    CHECK(answered(plan("     2     1\n     0     0\n    10           1     1     1\n", ROOM), BANKPLAN_BAD_PLACE, 3, 0) && holds(""));
+    CHECK(answered(plan("     2     1\n     0     0\n    10     1     2     1     2\n", ROOM), BANKPLAN_MALFORMED, 3, 0) && holds(""));
+    CHECK(answered(plan("     2     1\n     0     0\n    10     1     1     1\n", ROOM), BANKPLAN_MALFORMED, 3, 0) && holds(""));
 }
 
 static void short_buffers(void)
@@ -266,9 +330,11 @@ static void journals(void)
 {
     CHECK(answered(run(sheet, journal, ROOM), 0, 0, strlen(answers)) && holds(answers));
     CHECK(answered(run(sheet, "", 0), 0, 0, 0) && holds(""));
-    CHECK(answered(run(sheet, "     5\n     7     3\n     9     3\n", ROOM), BANKPLAN_BAD_JOURNAL, 3, 0) && holds(""));
+    CHECK(answered(run(sheet, "     5\n     7     3\n    10     3\n", ROOM), BANKPLAN_BAD_JOURNAL, 3, 0) && holds(""));
     CHECK(answered(run(sheet, "     5\n     7     3", ROOM), BANKPLAN_BAD_JOURNAL, 2, 0) && holds(""));
-    /* balance and settle have a number */
+    /* balance, settle and start have a number */
+    CHECK(answered(run(sheet, "     9\n", ROOM), BANKPLAN_BAD_JOURNAL, 1, 0) && holds(""));
+    CHECK(answered(run(sheet, "     9     1     1\n", ROOM), BANKPLAN_BAD_JOURNAL, 1, 0) && holds(""));
     CHECK(answered(run(sheet, "     7\n", ROOM), BANKPLAN_BAD_JOURNAL, 1, 0) && holds(""));
     CHECK(answered(run(sheet, "     7     3\n     8\n", ROOM), BANKPLAN_BAD_JOURNAL, 2, 0) && holds(""));
     CHECK(answered(run(sheet, "     7     2\n     8     2\n     7     3\n     8     4\n", ROOM), 0, 0, 7 + 7 + 67 + 31) &&
@@ -355,8 +421,8 @@ static void refused_files(void)
     CHECK(refused_balance(balance("", 0, 0), BANKPLAN_MALFORMED, 1));
     CHECK(refused_settle(settle("", ENTRIES, ROOM), BANKPLAN_MALFORMED, 1));
     CHECK(refused_balance(balance("    25     0\n", ENTRIES, ROOM), BANKPLAN_BAD_SIZE, 1));
-    CHECK(refused_settle(settle("     2     1\n     0     0\n    10     0     2     1     1\n", ENTRIES, ROOM), BANKPLAN_BAD_LIST, 3));
-    CHECK(refused_balance(balance("     2     1\n     0     0\n    10     2     1     1\n", ENTRIES, ROOM), BANKPLAN_BAD_PLACE, 3));
+    CHECK(refused_settle(settle("     2     1\n     0     0\n    10     0     0     2     1     1\n", ENTRIES, ROOM), BANKPLAN_BAD_LIST, 3));
+    CHECK(refused_balance(balance("     2     1\n     0     0\n    10     2     0     1     1\n", ENTRIES, ROOM), BANKPLAN_BAD_PLACE, 3));
 }
 
 /* Sheet and buffer start at any byte. */
@@ -384,8 +450,8 @@ static void odd_places(void)
     }
 }
 
-/* 24 calibrations, and 200 batches at this place that any of 24 instruments may run. */
-static void fill(char *to, int place)
+/* 24 calibrations, and 200 batches at this place and with this mark that any of 24 instruments may run. */
+static void fill(char *to, int place, int mark)
 {
     int batch, instrument;
 
@@ -394,7 +460,7 @@ static void fill(char *to, int place)
         to += sprintf(to, "%6d", BANKPLAN_MOST_CALIBRATION);
     to += sprintf(to, "\n");
     for (batch = 1; batch <= BANKPLAN_MOST_BATCHES; batch++) {
-        to += sprintf(to, "%6d%6d%6d", BANKPLAN_MOST_MINUTES, place, BANKPLAN_MOST_INSTRUMENTS);
+        to += sprintf(to, "%6d%6d%6d%6d", BANKPLAN_MOST_MINUTES, place, mark, BANKPLAN_MOST_INSTRUMENTS);
         for (instrument = BANKPLAN_MOST_INSTRUMENTS; instrument >= 1; instrument--)
             to += sprintf(to, "%6d", instrument);
         to += sprintf(to, "\n");
@@ -409,8 +475,8 @@ static void largest(void)
     bankplan_settled z;
     size_t line;
 
-    fill(full, 0);
-    fill(filled, BANKPLAN_MOST_INSTRUMENTS);
+    fill(full, 0, 0);
+    fill(filled, BANKPLAN_MOST_INSTRUMENTS, 0);
     CHECK(strlen(filled) == BANKPLAN_LARGEST_SHEET);
     CHECK(answered(plan(full, BANKPLAN_LARGEST_LISTING - 1), BANKPLAN_BUFFER_SHORT, 0, 0) && holds(""));
     CHECK(answered(plan(full, BANKPLAN_LARGEST_LISTING), 0, 0, BANKPLAN_LARGEST_LISTING));
@@ -435,6 +501,14 @@ static void largest(void)
     CHECK(answered(run(full, "     7   200\n", line - 1), BANKPLAN_BUFFER_SHORT, 0, 0) && holds(""));
     CHECK(answered(run(full, "     7   200\n", line), 0, 0, line));
     CHECK(answered(run(full, "     7   199\n", 7), 0, 0, 7) && holds("     9\n"));
+
+    /* all of them started, on one instrument */
+    fill(full, BANKPLAN_MOST_INSTRUMENTS, 1);
+    CHECK(answered(write_back(full, "     2   200\n", BANKPLAN_LARGEST_SHEET), 0, 0, BANKPLAN_LARGEST_SHEET) && holds(full));
+    z = settle(full, BANKPLAN_MOST_BATCHES, BANKPLAN_LARGEST_SHEET);
+    CHECK(z.refusal == 0 && z.finish == 288240 && z.moves == 0 && z.records == 0 && holds(full));
+    b = balance(full, BANKPLAN_MOST_BATCHES, BANKPLAN_LARGEST_SHEET);
+    CHECK(b.refusal == 0 && b.finish == 288240 && b.floor == 288240 && b.level == 286800 && b.size == 1 && b.group[0] == 24 && holds(full));
 }
 
 int main(void)
@@ -442,6 +516,7 @@ int main(void)
     sheets();
     written_sheets();
     calibrations();
+    started();
     short_buffers();
     journals();
     files();

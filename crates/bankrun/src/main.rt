@@ -3,7 +3,7 @@
 //
 //   bankrun SHEET JOURNAL
 //
-// What is printed is proved: `print` gives it for the bytes read, and the first 32,759 bytes of a sheet decide as the whole does
+// What is printed is proved: `print` gives it for the bytes read, and the first 33,959 bytes of a sheet decide as the whole does
 // (`run-bounded`). That the bytes come from the files and go to standard output is not: no contract speaks of that.
 //
 // A journal of more than 262,143 bytes is refused whole, as 19 with line 0, and no call of it is made. The answers have at most 262,144

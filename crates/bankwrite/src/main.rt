@@ -5,7 +5,7 @@
 // Where something is refused, standard output gets nothing, so that no refusal is ever taken for a sheet; one line with the refusal's
 // number and line goes to standard error.
 //
-// What is printed is proved: `write_into` gives it for the bytes read, every file fits its buffer (`always-fits`), and the first 32,759
+// What is printed is proved: `write_into` gives it for the bytes read, every file fits its buffer (`always-fits`), and the first 33,959
 // bytes of a sheet decide as the whole does (`write-bounded`). That the bytes come from the files and go to standard output is not: no
 // contract speaks of that.
 //
@@ -37,7 +37,7 @@ fn main() {
         refuse(STDERR_FILENO, 19, 0);
         return;
     }
-    let mut text = [0u8; 32758];
+    let mut text = [0u8; 33958];
     let r = write_into(&sheet[..size], &journal[..length], &mut text);
     let refusal = r.refusal;
     if refusal != 0 {

@@ -9,7 +9,7 @@ use Rattle.rules.specs.Edit.{Edit}
 use Rattle.rules.specs.Read.{read, accepted}
 use Rattle.rules.specs.Run.{Call, answer, next, bookAfter, answers, answerNumbers}
 use Rattle.rules.specs.Run as R
-use Rattle.theory.proofs.Runs.{Claims}
+use Rattle.theory.proofs.Claims.{Claims}
 use Rattle.sheet.specs.declared.Sheet.{Sheet}
 use Rattle.sheet.specs.declared.Edited.{Edited}
 use Rattle.sheet.specs.Represent.{Sound, sheetOf, bookOf}

@@ -1,6 +1,6 @@
 // What the programs over a sheet's file and a journal's share: PROGRAM SHEET JOURNAL.
 //
-// The first 32,759 bytes of a sheet decide as the whole does. A journal has at most 262,143 bytes; a longer one fills its buffer, and is
+// The first 33,959 bytes of a sheet decide as the whole does. A journal has at most 262,143 bytes; a longer one fills its buffer, and is
 // refused whole.
 ghost use Prim.Native.Nat.{_<_, _≤_};
 ghost use mathlib.Core.Path.{_≡_};
@@ -9,7 +9,7 @@ use libc::STDERR_FILENO;
 use libc::STDOUT_FILENO;
 use text::put_pair;
 
-pub const SHEET: usize = 32759;
+pub const SHEET: usize = 33959;
 
 pub const JOURNAL: usize = 262144;
 

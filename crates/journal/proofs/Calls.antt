@@ -11,9 +11,9 @@ use Rattle.rules.specs.Fold.{pick}
 use Rattle.rules.specs.Refusal.{Refusal, malformed}
 use Rattle.rules.specs.Field.{Field, value, blank, fault, field}
 use Rattle.rules.specs.Read.{Part, gives, refuses, andThen, orRefuse, fieldPart, numberAt, endOfLine}
-use Rattle.rules.specs.Edit.{add, withdraw, requalify, move}
+use Rattle.rules.specs.Edit.{add, withdraw, requalify, move, start}
 use Rattle.rules.specs.Run.{Call, editing, reviewing, trying, balancing, settling}
-use Rattle.rules.specs.Journal.{numbersAt, listAt, addAt, withdrawAt, requalifyAt, moveAt, trialAt, balanceAt, settleAt, callAt, callLine}
+use Rattle.rules.specs.Journal.{numbersAt, listAt, addAt, withdrawAt, requalifyAt, moveAt, trialAt, balanceAt, settleAt, startAt, callAt, callLine}
 use Rattle.theory.proofs.Logic.{conflict}
 use Rattle.fields.proofs.Reading.{six}
 use Rattle.journal.specs.declared.entry.Entry.{Entry}
@@ -87,7 +87,7 @@ unfolding moveAt
 move-leaves r = fewer 0 (omega arith) (then-leaves 0 _ (number-leaves r) (λ b k. one-leaves (λ i. editing (move b i)) (drop k r)))
 
 pub call-leaves : (kind : ℕ) (r : List ℕ) → Leaves 0 r (callAt kind r)
-unfolding callAt addAt withdrawAt requalifyAt trialAt balanceAt settleAt
+unfolding callAt addAt withdrawAt requalifyAt trialAt balanceAt settleAt startAt
 call-leaves kind r =
     pick-leaves (eqb kind 1) (listed-leaves (λ t l. editing (add t l)) r)
     (pick-leaves (eqb kind 2) (one-leaves (λ b. editing (withdraw b)) r)
@@ -97,7 +97,8 @@ call-leaves kind r =
     (pick-leaves (eqb kind 6) (one-leaves (λ a. trying a) r)
     (pick-leaves (eqb kind 7) (one-leaves (λ c. balancing c) r)
     (pick-leaves (eqb kind 8) (one-leaves (λ c. settling c) r)
-    (refuse malformed))))))))
+    (pick-leaves (eqb kind 9) (one-leaves (λ b. editing (start b)) r)
+    (refuse malformed)))))))))
 
 end-leaves : (c : Call) (r : List ℕ) → Leaves 1 r (endOfLine r (λ u. gives c u))
 unfolding endOfLine
@@ -129,6 +130,7 @@ next-of (editing (add t l)) n = refl
 next-of (editing (withdraw b)) n = refl
 next-of (editing (requalify b l)) n = refl
 next-of (editing (move b i)) n = refl
+next-of (editing (start b)) n = refl
 next-of reviewing n = refl
 next-of (trying a) n = refl
 next-of (balancing c) n = refl
@@ -139,6 +141,7 @@ fault-of (editing (add t l)) n = refl
 fault-of (editing (withdraw b)) n = refl
 fault-of (editing (requalify b l)) n = refl
 fault-of (editing (move b i)) n = refl
+fault-of (editing (start b)) n = refl
 fault-of reviewing n = refl
 fault-of (trying a) n = refl
 fault-of (balancing c) n = refl
@@ -150,6 +153,7 @@ count-kept (editing (add t l)) n = omega (arith, row-few l, row-long l)
 count-kept (editing (withdraw b)) n = omega arith
 count-kept (editing (requalify b l)) n = omega (arith, row-few l, row-long l)
 count-kept (editing (move b i)) n = omega arith
+count-kept (editing (start b)) n = omega arith
 count-kept reviewing n = omega arith
 count-kept (trying a) n = omega arith
 count-kept (balancing c) n = omega arith
@@ -188,6 +192,7 @@ ending-of (editing (add t l)) m n = refl
 ending-of (editing (withdraw b)) m n = refl
 ending-of (editing (requalify b l)) m n = refl
 ending-of (editing (move b i)) m n = refl
+ending-of (editing (start b)) m n = refl
 ending-of reviewing m n = refl
 ending-of (trying a) m n = refl
 ending-of (balancing c) m n = refl
@@ -261,3 +266,7 @@ module _ (size : ℕ) (r : List ℕ) where
   pub settle-entry : numbersAs size (oneNumber 8 r) ≡ entryAs size (settleAt r)
   unfolding settleAt
   settle-entry = then-entry size (numberAt r) _ _ (λ a u. refl)
+
+  pub start-entry : numbersAs size (oneNumber 9 r) ≡ entryAs size (startAt r)
+  unfolding startAt
+  start-entry = then-entry size (numberAt r) _ _ (λ a u. refl)

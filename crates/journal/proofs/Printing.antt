@@ -72,7 +72,7 @@ module _ (s j buffer : List ℕ) (short : length j < 999999) where
         refusal-of : (r .refusal ≡ 0 → ⊥) → line (r .refusal ∷ r .line ∷ []) ≡ printedOf (hostedOf r after)
         refusal-of n = rw (ne-eqb (r .refusal) 0 n)
 
--- the first 32,759 bytes of a sheet decide what is printed
-pub run-bounded : (s j buffer : List ℕ) → runHost (take 32759 s) j buffer ≡ runHost s j buffer
+-- the first 33,959 bytes of a sheet decide what is printed
+pub run-bounded : (s j buffer : List ℕ) → runHost (take 33959 s) j buffer ≡ runHost s j buffer
 unfolding runHost
 run-bounded s j buffer = rw (read-bounded s)

@@ -10,7 +10,7 @@ use lib.Seq.{take-all, length-take-le}
 use borrow.Author.Tests.{leb-true, leb-false, lt-leb, ne-eqb}
 use Rattle.rules.specs.Fold.{_and_}
 use Rattle.rules.specs.Sheet.{Book, sound, goodInstruments, goodList}
-use Rattle.rules.specs.Edit.{Edit, Edited, add, withdraw, requalify, move, edit}
+use Rattle.rules.specs.Edit.{Edit, Edited, add, withdraw, requalify, move, start, edit}
 use Rattle.rules.specs.Run.{Call, editing, reviewing, trying, balancing, settling, answer, next, answerNumbers, editAnswer, editBook}
 use Rattle.theory.proofs.Logic.{byTest, and-right}
 use Rattle.theory.proofs.Sound.{sound-is}
@@ -68,6 +68,7 @@ made-said k v (editing (withdraw b)) n = refl
 made-said k v (editing (requalify b l)) n =
     made-edits k _ (requalify b l) (ap (λ (d : List ℕ). edit k (requalify b d)) (row-front l) ∙ requalify-first k v l b)
 made-said k v (editing (move b i)) n = refl
+made-said k v (editing (start b)) n = refl
 made-said k v reviewing n = refl
 made-said k v (trying a) n = refl
 made-said k v (balancing c) n = refl
@@ -89,9 +90,13 @@ module _ (e : Entry) where
   unfolding editSaid
   edit-requalify p q r = rw r
 
-  pub edit-move : (e .kind ≡ 1 → ⊥) → (e .kind ≡ 2 → ⊥) → (e .kind ≡ 3 → ⊥) → move (e .a) (e .b) ≡ editSaid e
+  pub edit-move : e .kind ≡ 4 → move (e .a) (e .b) ≡ editSaid e
   unfolding editSaid
-  edit-move p q r = rw (ne-eqb (e .kind) 1 p, ne-eqb (e .kind) 2 q, ne-eqb (e .kind) 3 r)
+  edit-move p = rw p
+
+  pub edit-start : (e .kind ≡ 1 → ⊥) → (e .kind ≡ 2 → ⊥) → (e .kind ≡ 3 → ⊥) → (e .kind ≡ 4 → ⊥) → start (e .a) ≡ editSaid e
+  unfolding editSaid
+  edit-start p q r t = rw (ne-eqb (e .kind) 1 p, ne-eqb (e .kind) 2 q, ne-eqb (e .kind) 3 r, ne-eqb (e .kind) 4 t)
 
   pub said-review : e .kind ≡ 5 → reviewing ≡ callSaid e
   unfolding callSaid

@@ -8,7 +8,7 @@ use lib.ListN.{length, getD, take, drop}
 use Rattle.rules.specs.Fold.{pick, every}
 use Rattle.rules.specs.Sheet.{Book}
 use Rattle.rules.specs.Render.{columns, fields, line}
-use Rattle.rules.specs.Edit.{Edit, add, withdraw, requalify, move}
+use Rattle.rules.specs.Edit.{Edit, add, withdraw, requalify, move, start}
 use Rattle.rules.specs.Moves.{records, moveNumbers}
 use Rattle.rules.specs.Run.{Call, editing, reviewing, trying, balancing, settling, Answer, refused, done, reviewed, tried, balanced, settled, answer, next, answerNumbers, recordNumbers}
 use Rattle.sheet.specs.declared.Sheet.{Sheet}
@@ -28,7 +28,8 @@ editSaid e =
     pick (eqb (e .kind) 1) (add (e .a) (take (e .count) (e .list)))
     (pick (eqb (e .kind) 2) (withdraw (e .a))
     (pick (eqb (e .kind) 3) (requalify (e .a) (take (e .count) (e .list)))
-    (move (e .a) (e .b))))
+    (pick (eqb (e .kind) 4) (move (e .a) (e .b))
+    (start (e .a)))))
 
 unfoldable pub callSaid : Entry → Call
 callSaid e =

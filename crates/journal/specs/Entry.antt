@@ -4,7 +4,7 @@ use mathlib.Core.Bool.{true, false}
 use mathlib.Core.List.{List, []}
 use lib.ListN.{length, take, replicate}
 use Rattle.rules.specs.Read.{Part, gives, refuses, andThen, numberAt}
-use Rattle.rules.specs.Edit.{add, withdraw, requalify, move}
+use Rattle.rules.specs.Edit.{add, withdraw, requalify, move, start}
 use Rattle.rules.specs.Run.{Call, editing, reviewing, trying, balancing, settling}
 use Rattle.rules.specs.Journal.{Journal, calls, faulty, listAt, linesBy}
 use Rattle.sheet.specs.Represent.{padded}
@@ -33,6 +33,7 @@ entryOf reviewing next = entryWith 5 0 0 [] next
 entryOf (trying a) next = entryWith 6 a 0 [] next
 entryOf (balancing c) next = entryWith 7 c 0 [] next
 entryOf (settling c) next = entryWith 8 c 0 [] next
+entryOf (editing (start b)) next = entryWith 9 b 0 [] next
 
 -- nothing but the fault
 abbrev pub noEntry : Entry

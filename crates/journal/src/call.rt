@@ -257,7 +257,10 @@ fn edited(sheet: Sheet, e: Entry) -> Edited
     if kind == 3 {
         return sheet.requalify(e.a, &list[..count]);
     }
-    sheet.move_to(e.a, e.b)
+    if kind == 4 {
+        return sheet.move_to(e.a, e.b);
+    }
+    sheet.start(e.a)
 }
 
 // Makes the call of an entry.

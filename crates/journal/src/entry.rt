@@ -204,6 +204,9 @@ fn call_at(s: &[u8], at: usize, kind: u32) -> Entry
     if kind == 8 {
         return one_number(s, at, 8);
     }
+    if kind == 9 {
+        return one_number(s, at, 9);
+    }
     Entry::none()
 }
 

@@ -105,7 +105,7 @@ pub program-short : (s : List ℕ) → length (program s) ≤ 3994
 unfolding program
 program-short s = short-case s (read s) refl
 
--- the first 32,759 bytes of a file decide what is printed
-pub program-bounded : (s : List ℕ) → program (take 32759 s) ≡ program s
+-- the first 33,959 bytes of a file decide what is printed
+pub program-bounded : (s : List ℕ) → program (take 33959 s) ≡ program s
 unfolding program
 program-bounded s = rw (read-bounded s)

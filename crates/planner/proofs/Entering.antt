@@ -7,8 +7,8 @@ use native.Mathlib.Numerals.{add-one}
 use lib.ListN.{length, getD, set, replicate, length-append, length-map, length-replicate, replicate-append-replicate}
 use lib.Seq.{paste, set-append-left}
 use Rattle.rules.specs.Fold.{at}
-use Rattle.rules.specs.Sheet.{Book, Batch}
-use Rattle.rules.specs.Instance.{calibrationOf, calibrationsTo, items}
+use Rattle.rules.specs.Sheet.{Book, Batch, waiting}
+use Rattle.rules.specs.Instance.{qualified, calibrationOf, calibrationsTo, items}
 use Rattle.rules.specs.Marks.{marksOf}
 use Rattle.theory.proofs.Marks.{length-marks}
 use Rattle.theory.proofs.Items.{calibrations-ext}
@@ -42,26 +42,26 @@ entered-wider v w l part a e h g f =
 -- ---- one item more
 
 -- a mark in the row behind the rows
-mark-more : (bs : List Batch) (b : Batch) (i : ℕ) → b .list ≡ suc i ∷ [] → i < 24 → length bs < 224
+mark-more : (bs : List Batch) (b : Batch) (i : ℕ) → qualified b ≡ suc i ∷ [] → i < 24 → length bs < 224
     → set (padded 5376 (markRows bs)) (length bs * 24 + i) 1 ≡ padded 5376 (markRows (bs ++ (b ∷ [])))
 mark-more bs b i e h g =
     let p = markRows bs in
     let n = length-mark-rows bs in
     let z : List ℕ = replicate (5376 - (length p + 24)) 0 in
     let x : suc i - 1 ≡ i = omega arith in
-    let row : set (replicate 24 0) i 1 ≡ marksOf (b .list) =
+    let row : set (replicate 24 0) i 1 ≡ marksOf (qualified b) =
     sym (ap marksOf e ∙ marks-more [] (suc i) (omega arith) (omega arith) ∙ ap (λ (l : List ℕ). set l (suc i - 1) 1) marks-none
     ∙ ap (λ (k : ℕ). set (replicate 24 0) k 1) x) in
-    let q : markRows (bs ++ (b ∷ [])) ≡ p ++ marksOf (b .list) = mark-rows-last bs b in
-    let f : 5376 - length (p ++ marksOf (b .list)) ≡ 5376 - (length p + 24) =
-    omega (arith, length-append p (marksOf (b .list)), length-marks (b .list)) in
+    let q : markRows (bs ++ (b ∷ [])) ≡ p ++ marksOf (qualified b) = mark-rows-last bs b in
+    let f : 5376 - length (p ++ marksOf (qualified b)) ≡ 5376 - (length p + 24) =
+    omega (arith, length-append p (marksOf (qualified b)), length-marks (qualified b)) in
     ap (λ (l : List ℕ). set l (length bs * 24 + i) 1) (padded-room 5376 24 p (omega arith))
     ∙ ap (λ (k : ℕ). set (p ++ (replicate 24 0 ++ z)) (k + i) 1) (sym n)
     ∙ set-behind p (replicate 24 0 ++ z) i 1
     ∙ ap (λ (r : List ℕ). p ++ r)
     (set-append-left (replicate 24 0) z i 1 (omega (arith, length-replicate {A = ℕ} 24 0)) ∙ ap (λ (r : List ℕ). r ++ z) row)
-    ∙ sym (append-assoc p (marksOf (b .list)) z)
-    ∙ sym (ap (padded 5376) q ∙ ap (λ (k : ℕ). (p ++ marksOf (b .list)) ++ replicate k 0) f)
+    ∙ sym (append-assoc p (marksOf (qualified b)) z)
+    ∙ sym (ap (padded 5376) q ∙ ap (λ (k : ℕ). (p ++ marksOf (qualified b)) ++ replicate k 0) f)
 
 -- the arrays that the loop has
 abbrev pub held : ℕ → List ℕ → List ℕ → List ℕ → Items
@@ -74,7 +74,7 @@ entered a i t = held (a .n + 1) (set (a .minutes) (a .n) t) (set (a .places) (a 
 item-more : (bs : List Batch) (i t : ℕ) → 0 < t → i < 24 → length bs < 224 → entered (itemsOf bs) i t ≡ itemsOf (bs ++ calibrationOf (suc i) t)
 item-more bs i zero p h g = absurd (omega arith)
 item-more bs i (suc t) p h g =
-    let b : Batch = record { minutes = suc t; list = suc i ∷ []; place = suc i } in
+    let b = waiting (suc t) (suc i ∷ []) (suc i) in
     rw (
       set-append 224 (map (λ (x : Batch). x .minutes) bs) (length bs) (suc t) (length-map bs (λ (x : Batch). x .minutes)) g,
       add-one i,

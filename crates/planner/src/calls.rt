@@ -11,7 +11,6 @@ use crate::Settled;
 use crate::Tried;
 use crate::drawn::draw;
 use crate::drawn::rest;
-use crate::items::items_of;
 use crate::laid::lay;
 use arrays::JOBS;
 use arrays::scan::largest_load;
@@ -117,8 +116,7 @@ pub fn balance(sheet: Sheet) -> Balanced
     let masks = a.masks;
     let places = a.places;
     let loads = a.loads;
-    let again = items_of(sheet);
-    let marks = again.marks;
+    let marks = a.marks;
     let d = draw(places, loads, &minutes, &masks, &marks, a.m, a.n);
     let list = d.group;
     let end = d.places;

@@ -4,16 +4,18 @@ ghost use Rattle.planner.specs.Laid.{Lays};
 use crate::items::items_of;
 use arrays::JOBS;
 use arrays::MACHINES;
+use arrays::MARKS;
 use arrays::scan::loads_of;
 use arrays::sets::masks_of;
 use sheet::Sheet;
 
-// How many machines and jobs; each job's minutes, the set of machines that it may run on, and its place; and the loads, 0 past the
-// last machine.
+// How many machines and jobs; each job's minutes, the machines that it may run on as marks and as a set, and its place; and the loads, 0
+// past the last machine.
 pub struct Laid {
     pub m: usize,
     pub n: usize,
     pub minutes: [u16; JOBS],
+    pub marks: [u8; MARKS],
     pub masks: [u32; JOBS],
     pub places: [u8; JOBS],
     pub loads: [u32; MACHINES],
@@ -34,6 +36,7 @@ pub fn lay(sheet: Sheet) -> Laid
         m,
         n: a.n,
         minutes,
+        marks,
         masks,
         places,
         loads,

@@ -1,5 +1,5 @@
 -- Document 01, "Cases": P1 to P10 in one table, with one theorem over it. The rows from 11 on are more of document 01's cases
--- and ours: each tells a wrong rule from the right one. Rows 20 to 25 are C-11 to C-16 of
+-- and ours: each tells a wrong rule from the right one. Rows 20 to 26 are C-11 to C-17 of
 -- document 02.
 use Prim.Native.Nat.{ℕ}
 use Prim.Native.String.{String}
@@ -8,13 +8,13 @@ use mathlib.Core.Bool.{Bool, true, false}
 use mathlib.Core.List.{List, [], _∷_, map, _++_}
 use lib.ListN.{replicate}
 use Rattle.rules.specs.Fold.{_and_, _or_, mem, every, sumTo, most, maxTo, orElse, firstTo, anyTo, allTo, lesser, leastTo, greater, greatestTo, thoseTo, listTo}
-use Rattle.rules.specs.Refusal.{malformed, badSize, badLength, badList, badPlace, badCalibration, noBatch, levelAbove, bufferShort}
-use Rattle.rules.specs.Sheet.{Batch, isBatch, goodInstruments, goodMinutes, goodCalibration, goodCalibrations, isInstrument, distinct, goodList, goodBatch, sound}
+use Rattle.rules.specs.Refusal.{malformed, badSize, badLength, badList, badPlace, badCalibration, noBatch, hasStarted, levelAbove, bufferShort}
+use Rattle.rules.specs.Sheet.{waiting, isBatch, goodInstruments, goodMinutes, goodCalibration, goodCalibrations, isInstrument, distinct, goodList, goodBatch, sound}
 use Rattle.rules.specs.Field.{Field, value, blank, fault, digits, loneZero, blanks, field}
-use Rattle.rules.specs.Read.{Reading, accepted, refusedAt, numberAt, placeAt, endOfLine, headLine, calibrationsAt, calibrationLine, instrumentsAt, batchLine, batchLines, linesAfter, read}
+use Rattle.rules.specs.Read.{Reading, accepted, refusedAt, numberAt, placeAt, endOfLine, headLine, calibrationsAt, calibrationLine, markAt, instrumentsAt, goodPlace, batchLine, batchLines, linesAfter, read}
 use Rattle.rules.specs.Render.{columns, fields, Given, numbered, leftBlank, Described, Description, renderBatches, render, batchWithinLimits, withinLimits}
 use Rattle.rules.specs.Rewrite.{written, openInBatches, openColumns, alike}
-use Rattle.rules.specs.Edit.{add, withdraw, requalify, move, kept, edit}
+use Rattle.rules.specs.Edit.{add, withdraw, requalify, move, start, kept, edit}
 use Rattle.rules.specs.Instance.{Assignment, calibrationsTo, busy, instance}
 use Rattle.rules.specs.Load.{load, makespan, longest, total, permitted, elsewhere, improvesAt, improves, review}
 use Rattle.rules.specs.Settle.{mover, target, moved, squares, settleBy, settle}
@@ -29,7 +29,7 @@ use Rattle.rules.specs.Moves.{Move, records, moveNumbers}
 use Rattle.rules.specs.Run.{Call, editing, reviewing, trying, balancing, settling, Answer, refused, done, reviewed, tried, balanced, settled, balanceBook, answer, next, bookAfter, answers}
 use Rattle.rules.specs.Lent.{Hosted, intoBuffer}
 use Rattle.rules.specs.Listing.{batchListing, listing, program, host}
-use Rattle.rules.specs.Journal.{numbersAt, listAt, addAt, withdrawAt, requalifyAt, moveAt, trialAt, balanceAt, settleAt, callAt, callLine, linesBy, journal, answerLines, runHost, writeHost}
+use Rattle.rules.specs.Journal.{numbersAt, listAt, addAt, withdrawAt, requalifyAt, moveAt, startAt, trialAt, balanceAt, settleAt, callAt, callLine, linesBy, journal, answerLines, runHost, writeHost}
 use Rattle.rules.specs.Filed.{Filed, filed}
 use Rattle.rules.specs.Text.{bytes, lines}
 
@@ -40,9 +40,9 @@ p1 =
     lines
     ("     2     3"
     ∷ "     0     0"
-    ∷ "    30     1     2     1     2"
-    ∷ "    20     1     1     1"
-    ∷ "    10     1     2     1     2"
+    ∷ "    30     1     0     2     1     2"
+    ∷ "    20     1     0     1     1"
+    ∷ "    10     1     0     2     1     2"
     ∷ [])
 
 abbrev p2 : List ℕ
@@ -50,25 +50,25 @@ p2 =
     lines
     ("     2     3"
     ∷ "     0     0"
-    ∷ "    10     1     1     1"
-    ∷ "    10     1     1     1"
-    ∷ "    10     1     1     1"
+    ∷ "    10     1     0     1     1"
+    ∷ "    10     1     0     1     1"
+    ∷ "    10     1     0     1     1"
     ∷ [])
 
 abbrev p3 : List ℕ
 p3 = lines ("     2     0" ∷ "     0     0" ∷ [])
 
 abbrev p4 : List ℕ
-p4 = lines ("     1     1" ∷ "     0" ∷ "  1440     1     1     1" ∷ [])
+p4 = lines ("     1     1" ∷ "     0" ∷ "  1440     1     0     1     1" ∷ [])
 
 abbrev p5 : List ℕ
 p5 =
     lines
     ("     2     3"
     ∷ "     0     0"
-    ∷ "    20     1     1     1"
-    ∷ "    10     1     2     1     2"
-    ∷ "    20     2     1     2"
+    ∷ "    20     1     0     1     1"
+    ∷ "    10     1     0     2     1     2"
+    ∷ "    20     2     0     1     2"
     ∷ [])
 
 abbrev p6 : List ℕ
@@ -76,9 +76,9 @@ p6 =
     lines
     ("     2     3"
     ∷ "     0     0"
-    ∷ "    21     1     1     1"
-    ∷ "    10     1     2     1     2"
-    ∷ "    20     2     1     2"
+    ∷ "    21     1     0     1     1"
+    ∷ "    10     1     0     2     1     2"
+    ∷ "    20     2     0     1     2"
     ∷ [])
 
 -- one instrument, so no trial below its load leaves an underloaded one
@@ -87,14 +87,14 @@ alone =
     lines
     ("     1     3"
     ∷ "     0"
-    ∷ "    10     0     1     1"
-    ∷ "    10     0     1     1"
-    ∷ "    10     0     1     1"
+    ∷ "    10     0     0     1     1"
+    ∷ "    10     0     0     1     1"
+    ∷ "    10     0     0     1     1"
     ∷ [])
 
 -- the longest batch is not on instrument 1
 abbrev apart : List ℕ
-apart = lines ("     2     2" ∷ "     0     0" ∷ "     5     1     1     1" ∷ "    30     2     1     2" ∷ [])
+apart = lines ("     2     2" ∷ "     0     0" ∷ "     5     1     0     1     1" ∷ "    30     2     0     1     2" ∷ [])
 
 -- level 1 fails, and level 2 passes with steps of its own only from the standing assignment
 abbrev again : List ℕ
@@ -102,9 +102,9 @@ again =
     lines
     ("     2     3"
     ∷ "     0     0"
-    ∷ "     3     1     2     1     2"
-    ∷ "     4     1     1     1"
-    ∷ "     2     1     1     1"
+    ∷ "     3     1     0     2     1     2"
+    ∷ "     4     1     0     1     1"
+    ∷ "     2     1     0     1     1"
     ∷ [])
 
 -- level 0 passes, 1 fails, 2 passes
@@ -113,10 +113,10 @@ uneven =
     lines
     ("     3     4"
     ∷ "     0     0     0"
-    ∷ "     4     2     3     1     2     3"
-    ∷ "     2     2     2     1     2"
-    ∷ "     2     1     2     1     2"
-    ∷ "     3     1     3     1     2     3"
+    ∷ "     4     2     0     3     1     2     3"
+    ∷ "     2     2     0     2     1     2"
+    ∷ "     2     1     0     2     1     2"
+    ∷ "     3     1     0     3     1     2     3"
     ∷ [])
 
 -- every trial that passes leaves the standing assignment, and settling then makes two moves
@@ -125,10 +125,10 @@ unsettled =
     lines
     ("     2     4"
     ∷ "     0     0"
-    ∷ "     2     2     1     2"
-    ∷ "     4     1     2     2     1"
-    ∷ "     5     1     2     2     1"
-    ∷ "     2     2     2     1     2"
+    ∷ "     2     2     0     1     2"
+    ∷ "     4     1     0     2     2     1"
+    ∷ "     5     1     0     2     2     1"
+    ∷ "     2     2     0     2     1     2"
     ∷ [])
 
 -- a place given as an instrument, as 0 and as blanks
@@ -137,9 +137,9 @@ threeWays =
     lines
     ("     2     3"
     ∷ "     0     0"
-    ∷ "    10     1     2     2     1"
-    ∷ "    20     0     2     2     1"
-    ∷ "    30           2     2     1"
+    ∷ "    10     1     0     2     2     1"
+    ∷ "    20     0     0     2     2     1"
+    ∷ "    30           0     2     2     1"
     ∷ [])
 
 -- all lengths are multiples of 2, and the plan is as late as that allows
@@ -148,9 +148,9 @@ rounded =
     lines
     ("     2     3"
     ∷ "     0     0"
-    ∷ "     4     1     2     1     2"
-    ∷ "     2     2     2     1     2"
-    ∷ "     2     1     1     1"
+    ∷ "     4     1     0     2     1     2"
+    ∷ "     2     2     0     2     1     2"
+    ∷ "     2     1     0     1     1"
     ∷ [])
 
 -- equal lengths: the plan is a best one, and the lower bound is below it
@@ -159,9 +159,9 @@ equals =
     lines
     ("     2     3"
     ∷ "     0     0"
-    ∷ "     6     1     2     1     2"
-    ∷ "     6     1     2     1     2"
-    ∷ "     6     1     2     1     2"
+    ∷ "     6     1     0     2     1     2"
+    ∷ "     6     1     0     2     1     2"
+    ∷ "     6     1     0     2     1     2"
     ∷ [])
 
 -- settling moves batch 2 away and back, and batch 4 in between
@@ -170,10 +170,10 @@ returning =
     lines
     ("     3     4"
     ∷ "     0     0     0"
-    ∷ "     1     3     1     3"
-    ∷ "     4     3     2     2     3"
-    ∷ "     2     2     1     2"
-    ∷ "     2     3     2     1     3"
+    ∷ "     1     3     0     1     3"
+    ∷ "     4     3     0     2     2     3"
+    ∷ "     2     2     0     1     2"
+    ∷ "     2     3     0     2     1     3"
     ∷ [])
 
 -- a calibration of 10 minutes on instrument 1, beside two batches that can run nowhere else
@@ -182,17 +182,43 @@ calibrated =
     lines
     ("     2     2"
     ∷ "    10     0"
-    ∷ "    10     1     1     1"
-    ∷ "    10     1     1     1"
+    ∷ "    10     1     0     1     1"
+    ∷ "    10     1     0     1     1"
     ∷ [])
 
 -- the longest of all is a calibration
 abbrev slowStart : List ℕ
-slowStart = lines ("     2     1" ∷ "    10    40" ∷ "    20     2     2     1     2" ∷ [])
+slowStart = lines ("     2     1" ∷ "    10    40" ∷ "    20     2     0     2     1     2" ∷ [])
 
 -- calibrations and no batch
 abbrev idle : List ℕ
 idle = lines ("     2     0" ∷ "    30    20" ∷ [])
+
+-- P1, but batch 1 has started on instrument 1, the second of its list, and cannot leave it
+abbrev loaded : List ℕ
+loaded =
+    lines
+    ("     2     3"
+    ∷ "     0     0"
+    ∷ "    30     1     1     2     2     1"
+    ∷ "    20     1     0     1     1"
+    ∷ "    10     1     0     2     1     2"
+    ∷ [])
+
+-- three that have started on one instrument, and could have run on three
+abbrev stuck : List ℕ
+stuck =
+    lines
+    ("     3     3"
+    ∷ "     0     0     0"
+    ∷ "    20     1     1     3     1     2     3"
+    ∷ "    20     1     1     3     1     2     3"
+    ∷ "    20     1     1     3     1     2     3"
+    ∷ [])
+
+-- a sheet of two instruments and one batch, whose line is given here
+abbrev single : String → List ℕ
+single a = lines ("     2     1" ∷ "     0     0" ∷ a ∷ [])
 
 -- ---- what is asked, and what is said
 
@@ -312,11 +338,8 @@ went b i j = record { batch = b; from = i; to = j }
 abbrev reviewSaid : List ℕ → ℕ → ℕ → Answer
 reviewSaid l f b = reviewed (record { loads = l; makespan = f; improving = b })
 
-abbrev batchOf : ℕ → List ℕ → ℕ → Batch
-batchOf t l p = record { minutes = t; list = l; place = p }
-
 abbrev describedOf : ℕ → Given → List ℕ → Described
-describedOf t p l = record { minutes = t; list = l; place = p }
+describedOf t p l = record { minutes = t; list = l; place = p; started = false }
 
 -- the description of threeWays
 abbrev threeGiven : Description
@@ -332,7 +355,7 @@ threeGiven = record {
 
 -- a file like threeWays, but for the columns of its lines 3 and 4 given here
 abbrev likeThreeWays : String → String → List ℕ
-likeThreeWays a b = lines ("     2     3" ∷ "     0     0" ∷ a ∷ b ∷ "    30     2     2     2     1" ∷ [])
+likeThreeWays a b = lines ("     2     3" ∷ "     0     0" ∷ a ∷ b ∷ "    30     2     0     2     2     1" ∷ [])
 
 table : List Row
 table =
@@ -358,18 +381,18 @@ table =
     (answered (tried (failed (1 ∷ []) 9 12) ∷ tried (passed (1 ∷ 1 ∷ 1 ∷ []) 0 0) ∷ []))
     ∷ row 9 (fieldOf "    07") (fieldSaid fault)
     ∷ row 9 (fieldOf "     0") (fieldSaid (value 0))
-    ∷ row 10 (reading p4) (readingSaid (accepted (record { m = 1; calibrations = 0 ∷ []; batches = batchOf 1440 (1 ∷ []) 1 ∷ [] })))
-    ∷ row 10 (reading (lines ("     1     1" ∷ "     0" ∷ "  1441     1     1     1" ∷ []))) (readingSaid (refusedAt badLength 3))
+    ∷ row 10 (reading p4) (readingSaid (accepted (record { m = 1; calibrations = 0 ∷ []; batches = waiting 1440 (1 ∷ []) 1 ∷ [] })))
+    ∷ row 10 (reading (lines ("     1     1" ∷ "     0" ∷ "  1441     1     0     1     1" ∷ []))) (readingSaid (refusedAt badLength 3))
     -- more of reading
     ∷ row 11 (reading []) (readingSaid (refusedAt malformed 1))
     ∷ row 11 (reading (p3 ++ (32 ∷ []))) (readingSaid (refusedAt malformed 3))
     ∷ row 11 (reading (lines ("     2   201" ∷ []))) (readingSaid (refusedAt badSize 1))
-    ∷ row 11 (reading (lines ("     2     1" ∷ "     0     0" ∷ "    10     3     2     1     1" ∷ []))) (readingSaid (refusedAt badList 3))
-    ∷ row 11 (reading (lines ("     2     1" ∷ "     0     0" ∷ "    10     3     2     1     2 " ∷ []))) (readingSaid (refusedAt malformed 3))
-    ∷ row 11 (reading (lines ("     2     1" ∷ "     0     0" ∷ "    10     3     2     1     2" ∷ "x" ∷ []))) (readingSaid (refusedAt badPlace 3))
-    ∷ row 11 (reading (lines ("     2     1" ∷ "     0     0" ∷ "    10     2     1     1" ∷ []))) (readingSaid (refusedAt badPlace 3))
-    ∷ row 11 (reading (lines ("     2     1" ∷ "     0     0" ∷ "    10     0     2     2     1" ∷ [])))
-    (readingSaid (accepted (record { m = 2; calibrations = 0 ∷ 0 ∷ []; batches = batchOf 10 (2 ∷ 1 ∷ []) 2 ∷ [] })))
+    ∷ row 11 (reading (lines ("     2     1" ∷ "     0     0" ∷ "    10     3     0     2     1     1" ∷ []))) (readingSaid (refusedAt badList 3))
+    ∷ row 11 (reading (lines ("     2     1" ∷ "     0     0" ∷ "    10     3     0     2     1     2 " ∷ []))) (readingSaid (refusedAt malformed 3))
+    ∷ row 11 (reading (lines ("     2     1" ∷ "     0     0" ∷ "    10     3     0     2     1     2" ∷ "x" ∷ []))) (readingSaid (refusedAt badPlace 3))
+    ∷ row 11 (reading (lines ("     2     1" ∷ "     0     0" ∷ "    10     2     0     1     1" ∷ []))) (readingSaid (refusedAt badPlace 3))
+    ∷ row 11 (reading (lines ("     2     1" ∷ "     0     0" ∷ "    10     0     0     2     2     1" ∷ [])))
+    (readingSaid (accepted (record { m = 2; calibrations = 0 ∷ 0 ∷ []; batches = waiting 10 (2 ∷ 1 ∷ []) 2 ∷ [] })))
     ∷ row 12 (writing p1) (fileSaid p1)
     -- more of trials, balance and settle
     ∷ row 13 (calling alone (trying 0 ∷ trying 20 ∷ trying 30 ∷ trying 31 ∷ []))
@@ -455,14 +478,14 @@ table =
     (readingSaid (accepted (record {
       m = 2;
       calibrations = 0 ∷ 0 ∷ [];
-      batches = batchOf 10 (2 ∷ 1 ∷ []) 1 ∷ batchOf 20 (2 ∷ 1 ∷ []) 2 ∷ batchOf 30 (2 ∷ 1 ∷ []) 2 ∷ [];
+      batches = waiting 10 (2 ∷ 1 ∷ []) 1 ∷ waiting 20 (2 ∷ 1 ∷ []) 2 ∷ waiting 30 (2 ∷ 1 ∷ []) 2 ∷ [];
     })))
     ∷ row 20 (rendering threeGiven) (fileSaid threeWays)
     ∷ row 20 (reading (lines ("           0" ∷ []))) (readingSaid (refusedAt malformed 1))
     ∷ row 20 (reading (lines ("     2      " ∷ []))) (readingSaid (refusedAt malformed 1))
-    ∷ row 20 (reading (lines ("     2     1" ∷ "     0     0" ∷ "           1     1     1" ∷ []))) (readingSaid (refusedAt malformed 3))
-    ∷ row 20 (reading (lines ("     2     1" ∷ "     0     0" ∷ "    10     1           1" ∷ []))) (readingSaid (refusedAt malformed 3))
-    ∷ row 20 (reading (lines ("     2     1" ∷ "     0     0" ∷ "    10     1     2     1      " ∷ []))) (readingSaid (refusedAt malformed 3))
+    ∷ row 20 (reading (lines ("     2     1" ∷ "     0     0" ∷ "           1     0     1     1" ∷ []))) (readingSaid (refusedAt malformed 3))
+    ∷ row 20 (reading (lines ("     2     1" ∷ "     0     0" ∷ "    10     1     0           1" ∷ []))) (readingSaid (refusedAt malformed 3))
+    ∷ row 20 (reading (lines ("     2     1" ∷ "     0     0" ∷ "    10     1     0     2     1      " ∷ []))) (readingSaid (refusedAt malformed 3))
     ∷ row 20 (running p3 (lines ("     5" ∷ "     4     1      " ∷ [])) (1 ∷ []))
     (hosted (record { refusal = 19; line = 2; length = 0; buffer = 1 ∷ [] }))
     -- round lengths: the bound for 2 is reached; not all are multiples of 4, and none is of 0; equal lengths
@@ -477,30 +500,30 @@ table =
     ∷ row 21 (calling equals (balancing 3 ∷ []))
     (answered (balanceSaid 12 9 6 2 2 (1 ∷ 2 ∷ []) (2 ∷ 1 ∷ 1 ∷ []) (went 1 1 2 ∷ []) ∷ []))
     -- a sheet written back: every place as it is, lists in their order; another file only where a place was left open
-    ∷ row 22 (writing threeWays) (fileSaid (likeThreeWays "    10     1     2     2     1" "    20     2     2     2     1"))
-    ∷ row 22 (matching threeGiven (likeThreeWays "    10     1     2     2     1" "    20     2     2     2     1")) (matched true)
-    ∷ row 22 (matching threeGiven (likeThreeWays "    10     2     2     2     1" "    20     2     2     2     1")) (matched false)
-    ∷ row 22 (matching threeGiven (likeThreeWays "    10     1     2     2     1" "    20     2     2     1     2")) (matched false)
-    ∷ row 22 (matching threeGiven (likeThreeWays "    10     1     2     2     1" "    20     2     2     2     1 ")) (matched false)
+    ∷ row 22 (writing threeWays) (fileSaid (likeThreeWays "    10     1     0     2     2     1" "    20     2     0     2     2     1"))
+    ∷ row 22 (matching threeGiven (likeThreeWays "    10     1     0     2     2     1" "    20     2     0     2     2     1")) (matched true)
+    ∷ row 22 (matching threeGiven (likeThreeWays "    10     2     0     2     2     1" "    20     2     0     2     2     1")) (matched false)
+    ∷ row 22 (matching threeGiven (likeThreeWays "    10     1     0     2     2     1" "    20     2     0     2     1     2")) (matched false)
+    ∷ row 22 (matching threeGiven (likeThreeWays "    10     1     0     2     2     1" "    20     2     0     2     2     1 ")) (matched false)
     -- the sheet that a journal leaves, a refused call among its calls; an empty journal; a short buffer; bad files
-    ∷ row 22 (leaving p1 (lines ("     7     3" ∷ "     8     3" ∷ "     4     2     2" ∷ "     2     2" ∷ "     1    15     2     2     1" ∷ [])) (replicate 120 1))
+    ∷ row 22 (leaving p1 (lines ("     7     3" ∷ "     8     3" ∷ "     4     2     2" ∷ "     2     2" ∷ "     1    15     2     2     1" ∷ [])) (replicate 138 1))
     (hosted (record {
       refusal = 0;
       line = 0;
-      length = 119;
+      length = 137;
       buffer =
           lines
           ("     2     3"
           ∷ "     0     0"
-          ∷ "    30     2     2     1     2"
-          ∷ "    10     1     2     1     2"
-          ∷ "    15     2     2     2     1"
+          ∷ "    30     2     0     2     1     2"
+          ∷ "    10     1     0     2     1     2"
+          ∷ "    15     2     0     2     2     1"
           ∷ [])
           ++ (1 ∷ []);
     }))
     ∷ row 22 (leaving p3 [] (replicate 26 1)) (hosted (record { refusal = 0; line = 0; length = 26; buffer = p3 }))
     ∷ row 22 (leaving p3 [] (replicate 25 1)) (hosted (record { refusal = 9; line = 0; length = 0; buffer = replicate 25 1 }))
-    ∷ row 22 (leaving p3 (lines ("     5" ∷ "     9" ∷ [])) []) (hosted (record { refusal = 19; line = 2; length = 0; buffer = [] }))
+    ∷ row 22 (leaving p3 (lines ("     5" ∷ "    10" ∷ [])) []) (hosted (record { refusal = 19; line = 2; length = 0; buffer = [] }))
     ∷ row 22 (leaving [] (lines ("     9" ∷ [])) []) (hosted (record { refusal = 1; line = 1; length = 0; buffer = [] }))
     -- settle alone; a list with an entry less than there are batches, which changes nothing; balance after it, and each of them twice
     ∷ row 23 (calling p1 (balancing 2 ∷ settling 2 ∷ settling 3 ∷ balancing 4 ∷ settling 4 ∷ balancing 3 ∷ []))
@@ -531,19 +554,19 @@ table =
     ∷ row 23 (running p1 (lines ("     5" ∷ "     7" ∷ [])) (1 ∷ []))
     (hosted (record { refusal = 19; line = 2; length = 0; buffer = 1 ∷ [] }))
     -- on a file, with the sheet written back; a short list, a short buffer, a bad sheet
-    ∷ row 23 (filing p1 (settling 3) (replicate 114 1))
+    ∷ row 23 (filing p1 (settling 3) (replicate 132 1))
     (filedSaid (record {
       hosted = record {
         refusal = 0;
         line = 0;
-        length = 113;
+        length = 131;
         buffer =
             lines
             ("     2     3"
             ∷ "     0     0"
-            ∷ "    30     2     2     1     2"
-            ∷ "    20     1     1     1"
-            ∷ "    10     1     2     1     2"
+            ∷ "    30     2     0     2     1     2"
+            ∷ "    20     1     0     1     1"
+            ∷ "    10     1     0     2     1     2"
             ∷ [])
             ++ (1 ∷ []);
       };
@@ -551,8 +574,8 @@ table =
     }))
     ∷ row 23 (filing p1 (balancing 2) [])
     (filedSaid (record { hosted = record { refusal = 9; line = 0; length = 0; buffer = [] }; answer = refused bufferShort }))
-    ∷ row 23 (filing p1 (balancing 3) (replicate 112 1))
-    (filedSaid (record { hosted = record { refusal = 9; line = 0; length = 0; buffer = replicate 112 1 }; answer = refused bufferShort }))
+    ∷ row 23 (filing p1 (balancing 3) (replicate 130 1))
+    (filedSaid (record { hosted = record { refusal = 9; line = 0; length = 0; buffer = replicate 130 1 }; answer = refused bufferShort }))
     ∷ row 23 (filing [] (balancing 0) [])
     (filedSaid (record { hosted = record { refusal = 1; line = 1; length = 0; buffer = [] }; answer = refused malformed }))
     -- a list's marks, and whether it lies in a group: it does, all but its last instrument does, nothing is listed
@@ -606,6 +629,116 @@ table =
     (compared (record { multiples = true; equal = false; permitted = true; finish = 40; other = 60; close = true }))
     ∷ row 25 (comparing slowStart 10 (1 ∷ 2 ∷ 2 ∷ []))
     (compared (record { multiples = true; equal = false; permitted = false; finish = 40; other = 50; close = true }))
+    -- the mark: 0 or 1, judged after the length and before the count
+    ∷ row 26 (reading (single "    10     1     1     2     2     1"))
+    (readingSaid (accepted (record { m = 2; calibrations = 0 ∷ 0 ∷ []; batches = record { minutes = 10; list = 2 ∷ 1 ∷ []; place = 1; started = true } ∷ [] })))
+    ∷ row 26 (reading (single "    10     1     2     9     1")) (readingSaid (refusedAt malformed 3))
+    ∷ row 26 (reading (single "    10     1     1     9     1")) (readingSaid (refusedAt badList 3))
+    ∷ row 26 (reading (single "  1441     1     2     1     1")) (readingSaid (refusedAt badLength 3))
+    ∷ row 26 (reading (single "    10     1           1     1")) (readingSaid (refusedAt malformed 3))
+    -- started without a place, or off the list, judged last
+    ∷ row 26 (reading (single "    10     0     1     1     1")) (readingSaid (refusedAt badPlace 3))
+    ∷ row 26 (reading (single "    10           1     1     1")) (readingSaid (refusedAt badPlace 3))
+    ∷ row 26 (reading (single "    10     2     1     1     1")) (readingSaid (refusedAt badPlace 3))
+    ∷ row 26 (reading (single "    10     0     1     2     1     1")) (readingSaid (refusedAt badList 3))
+    ∷ row 26 (reading (single "    10     0     1     1     1 ")) (readingSaid (refusedAt malformed 3))
+    -- lines without a mark, as they were
+    ∷ row 26 (reading (single "    10     1     2     1     2")) (readingSaid (refusedAt malformed 3))
+    ∷ row 26 (reading (single "    10     1     1     1")) (readingSaid (refusedAt malformed 3))
+    -- the file has the whole list, and the mark is no place that may be left open
+    ∷ row 26 (writing loaded) (fileSaid loaded)
+    ∷ row 26 (matching threeGiven (likeThreeWays "    10     1     0     2     2     1" "    20     2     1     2     2     1")) (matched false)
+    ∷ row 26 (rendering (record {
+      m = 2;
+      calibrations = 0 ∷ 0 ∷ [];
+      batches = record { minutes = 10; list = 2 ∷ 1 ∷ []; place = numbered 1; started = true } ∷ [];
+    }))
+    (fileSaid (single "    10     1     1     2     2     1"))
+    -- 6 before 11, and 11 before 4 and 5
+    ∷ row 26 (calling loaded
+    (editing (withdraw 4)
+    ∷ editing (requalify 4 [])
+    ∷ editing (move 4 0)
+    ∷ editing (start 4)
+    ∷ editing (start 0)
+    ∷ editing (withdraw 1)
+    ∷ editing (requalify 1 [])
+    ∷ editing (requalify 1 (1 ∷ []))
+    ∷ editing (move 1 0)
+    ∷ editing (move 1 2)
+    ∷ editing (start 1)
+    ∷ []))
+    (answered
+    (refused noBatch
+    ∷ refused noBatch
+    ∷ refused noBatch
+    ∷ refused noBatch
+    ∷ refused noBatch
+    ∷ refused hasStarted
+    ∷ refused hasStarted
+    ∷ refused hasStarted
+    ∷ refused hasStarted
+    ∷ refused hasStarted
+    ∷ refused hasStarted
+    ∷ []))
+    -- the number of a started batch falls; add gives one that has not started
+    ∷ row 26 (calling loaded
+    (editing (start 3)
+    ∷ editing (move 3 2)
+    ∷ editing (withdraw 2)
+    ∷ editing (withdraw 2)
+    ∷ editing (add 7 (2 ∷ 1 ∷ []))
+    ∷ editing (move 3 1)
+    ∷ editing (requalify 3 (2 ∷ []))
+    ∷ reviewing
+    ∷ editing (withdraw 3)
+    ∷ []))
+    (answered
+    (done
+    ∷ refused hasStarted
+    ∷ done
+    ∷ refused hasStarted
+    ∷ done
+    ∷ done
+    ∷ done
+    ∷ reviewSaid (40 ∷ 7 ∷ []) 40 0
+    ∷ done
+    ∷ []))
+    -- it counts as qualified on its place alone: for gains, in trials, for the group and what is confined to it, and in plans compared with
+    ∷ row 26 (calling loaded (reviewing ∷ trying 0 ∷ trying 29 ∷ balancing 3 ∷ settling 3 ∷ reviewing ∷ []))
+    (answered
+    (reviewSaid (60 ∷ 0 ∷ []) 60 3
+    ∷ tried (failed (1 ∷ 2 ∷ []) 4 6)
+    ∷ tried (passed (1 ∷ 1 ∷ 2 ∷ []) 4 6)
+    ∷ balanceSaid 50 50 20 4 6 (1 ∷ []) (1 ∷ 1 ∷ 2 ∷ []) (went 3 1 2 ∷ [])
+    ∷ settleSaid 50 0 (1 ∷ 1 ∷ 2 ∷ []) []
+    ∷ reviewSaid (50 ∷ 10 ∷ []) 50 0
+    ∷ []))
+    ∷ row 26 (comparing loaded 10 (1 ∷ 1 ∷ 2 ∷ []))
+    (compared (record { multiples = true; equal = false; permitted = true; finish = 50; other = 50; close = true }))
+    ∷ row 26 (comparing loaded 10 (2 ∷ 1 ∷ 1 ∷ []))
+    (compared (record { multiples = true; equal = false; permitted = false; finish = 50; other = 30; close = true }))
+    ∷ row 26 (comparing stuck 20 (1 ∷ 2 ∷ 3 ∷ []))
+    (compared (record { multiples = true; equal = true; permitted = false; finish = 60; other = 20; close = false }))
+    -- as a line of a journal; a line without the number; a start keeps place and list
+    ∷ row 26 (running loaded (lines ("     9     1" ∷ "     9     3" ∷ "     9     4" ∷ [])) (replicate 22 1))
+    (hosted (record { refusal = 0; line = 0; length = 21; buffer = lines ("    11" ∷ "     0" ∷ "     6" ∷ []) ++ (1 ∷ []) }))
+    ∷ row 26 (running loaded (lines ("     5" ∷ "     9" ∷ [])) (1 ∷ []))
+    (hosted (record { refusal = 19; line = 2; length = 0; buffer = 1 ∷ [] }))
+    ∷ row 26 (leaving p1 (lines ("     9     1" ∷ "     7     3" ∷ "     8     3" ∷ [])) (replicate 131 1))
+    (hosted (record {
+      refusal = 0;
+      line = 0;
+      length = 131;
+      buffer =
+          lines
+          ("     2     3"
+          ∷ "     0     0"
+          ∷ "    30     1     1     2     1     2"
+          ∷ "    20     1     0     1     1"
+          ∷ "    10     2     0     2     1     2"
+          ∷ []);
+    }))
     ∷ []
 
 abbrev asked : List Row → List Said
@@ -616,5 +749,5 @@ said t = map (λ (r : Row). r .says) t
 
 -- the rules say what the table says
 cases : asked table ≡ said table
-unfolding table bytes lines _and_ _or_ mem every sumTo most maxTo orElse firstTo anyTo allTo lesser leastTo greater greatestTo thoseTo listTo isBatch goodInstruments goodMinutes goodCalibration goodCalibrations isInstrument distinct goodList goodBatch sound digits loneZero blanks field numberAt placeAt endOfLine headLine calibrationsAt calibrationLine instrumentsAt batchLine batchLines linesAfter read columns fields renderBatches render written openInBatches openColumns alike batchWithinLimits withinLimits kept edit calibrationsTo busy load makespan longest total permitted elsewhere improvesAt improves review mover target moved squares settleBy settle atLevel underloaded overloaded unplaced machineArc jobArc liftOver pushOr deed jobDeed machineDeed someUnderloaded actMachine actJob act stepsBy liftBound pushBound endedBy overflows reach reachBy closure group trial searchBy balance within confined share lowerBound marksOf multiples equalLengths closeTo P.balanced P.rested P.plan records moveNumbers answer next bookAfter answers intoBuffer batchListing listing program host numbersAt listAt addAt withdrawAt requalifyAt moveAt trialAt balanceAt settleAt callAt callLine linesBy journal answerLines runHost writeHost filed
+unfolding table bytes lines _and_ _or_ mem every sumTo most maxTo orElse firstTo anyTo allTo lesser leastTo greater greatestTo thoseTo listTo isBatch goodInstruments goodMinutes goodCalibration goodCalibrations isInstrument distinct goodList goodBatch sound digits loneZero blanks field numberAt placeAt endOfLine headLine calibrationsAt calibrationLine markAt instrumentsAt goodPlace batchLine batchLines linesAfter read columns fields renderBatches render written openInBatches openColumns alike batchWithinLimits withinLimits kept edit calibrationsTo busy load makespan longest total permitted elsewhere improvesAt improves review mover target moved squares settleBy settle atLevel underloaded overloaded unplaced machineArc jobArc liftOver pushOr deed jobDeed machineDeed someUnderloaded actMachine actJob act stepsBy liftBound pushBound endedBy overflows reach reachBy closure group trial searchBy balance within confined share lowerBound marksOf multiples equalLengths closeTo P.balanced P.rested P.plan records moveNumbers answer next bookAfter answers intoBuffer batchListing listing program host numbersAt listAt addAt withdrawAt requalifyAt moveAt startAt trialAt balanceAt settleAt callAt callLine linesBy journal answerLines runHost writeHost filed
 cases = refl

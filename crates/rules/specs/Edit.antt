@@ -1,12 +1,13 @@
--- Document 01, "The sheet" and "Refusals": the four edits, with their checks in order.
+-- Document 01, "The sheet" and "Refusals": the edits, with their checks in order. Document 02, C-17: starting a batch, and what a started
+-- one refuses.
 use Prim.Native.Nat.{ℕ, zero, suc, _-_}
-use mathlib.Core.Bool.{Bool, true, false}
+use mathlib.Core.Bool.{Bool, true, false, not}
 use mathlib.Core.List.{List, [], _∷_, _++_}
 use lib.ListN.{set}
 use lib.Dec.{ltb}
 use Rattle.rules.specs.Fold.{pick, mem}
-use Rattle.rules.specs.Refusal.{Refusal, badLength, badList, badPlace, noBatch, sheetFull}
-use Rattle.rules.specs.Sheet.{Book, Batch, size, batch, isBatch, head, maxBatches, goodMinutes, goodList}
+use Rattle.rules.specs.Refusal.{Refusal, badLength, badList, badPlace, noBatch, sheetFull, hasStarted}
+use Rattle.rules.specs.Sheet.{Book, Batch, waiting, withPlace, withList, begun, size, batch, isBatch, head, maxBatches, goodMinutes, goodList}
 
 pub data Edit : Type 0 where
   -- length, list
@@ -17,6 +18,8 @@ pub data Edit : Type 0 where
   requalify : ℕ → List ℕ → Edit
   -- number, instrument
   move : ℕ → ℕ → Edit
+  -- number
+  start : ℕ → Edit
 
 pub data Edited : Type 0 where
   refused : Refusal → Edited
@@ -44,18 +47,23 @@ withBatches k bs = record { m = k .m; calibrations = k .calibrations; batches = 
 abbrev pub withBatch : Book → ℕ → Batch → Book
 withBatch k b c = withBatches k (set (k .batches) (b - 1) c)
 
+-- go on where there is a batch of number b, and it has not started
+abbrev pub ifWaiting : Book → ℕ → Edited → Edited
+ifWaiting k b o = unless (isBatch k b) noBatch (unless (not (batch k b .started)) hasStarted o)
+
 unfoldable pub edit : Book → Edit → Edited
 edit k (add t l) =
     unless (ltb (size k) maxBatches) sheetFull
     (unless (goodMinutes t) badLength
     (unless (goodList (k .m) l) badList
-    (edited (withBatches k (k .batches ++ (record { minutes = t; list = l; place = head l } ∷ []))))))
-edit k (withdraw b) = unless (isBatch k b) noBatch (edited (withBatches k (without (k .batches) (b - 1))))
+    (edited (withBatches k (k .batches ++ (waiting t l (head l) ∷ []))))))
+edit k (withdraw b) = ifWaiting k b (edited (withBatches k (without (k .batches) (b - 1))))
 edit k (requalify b l) =
-    unless (isBatch k b) noBatch
+    ifWaiting k b
     (unless (goodList (k .m) l) badList
-    (edited (withBatch k b (record { minutes = batch k b .minutes; list = l; place = kept (batch k b .place) l }))))
+    (edited (withBatch k b (withPlace (withList (batch k b) l) (kept (batch k b .place) l)))))
 edit k (move b i) =
-    unless (isBatch k b) noBatch
+    ifWaiting k b
     (unless (mem i (batch k b .list)) badPlace
-    (edited (withBatch k b (record { minutes = batch k b .minutes; list = batch k b .list; place = i }))))
+    (edited (withBatch k b (withPlace (batch k b) i))))
+edit k (start b) = ifWaiting k b (edited (withBatch k b (begun (batch k b))))

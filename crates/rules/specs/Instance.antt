@@ -1,13 +1,13 @@
 -- What the mathematics sees of a book: an instance (source document 000, section 2, with users as jobs and links as
--- machines) and an assignment. All rules on loads, trials, balance and settle go by these two alone. Document 02, C-16: a calibration is a
--- job too.
+-- machines) and an assignment. All rules on loads, trials, balance and settle go by these two alone. Document 02: a calibration is a job too
+-- (C-16), and of a started batch the list is its place (C-17).
 use Prim.Native.Nat.{ℕ, zero, suc}
 use mathlib.Core.Bool.{Bool}
 use mathlib.Core.List.{List, [], _∷_, _++_, map}
 use lib.ListN.{length, getD}
 use lib.Dec.{leb}
-use Rattle.rules.specs.Fold.{_or_, at, mem, anyTo}
-use Rattle.rules.specs.Sheet.{Book, Batch, size}
+use Rattle.rules.specs.Fold.{_or_, pick, at, mem, anyTo}
+use Rattle.rules.specs.Sheet.{Book, Batch, waiting, size}
 
 -- a job: a length, and the machines that may run it (document 01: qualified)
 pub record Job : Type 0 where
@@ -46,13 +46,17 @@ eligible I b i = mem i (listOf I b)
 
 -- ---- the two sides of a book
 
+-- the instruments that count as qualified for a batch: its list, and its place alone once it has started
+abbrev pub qualified : Batch → List ℕ
+qualified b = pick (b .started) (b .place ∷ []) (b .list)
+
 abbrev pub jobOf : Batch → Job
-jobOf b = record { minutes = b .minutes; list = b .list }
+jobOf b = record { minutes = b .minutes; list = qualified b }
 
 -- a calibration of t minutes of instrument i: where t is above 0, as a batch that stands there and may run nowhere else
 abbrev pub calibrationOf : ℕ → ℕ → List Batch
 calibrationOf i zero = []
-calibrationOf i (suc t) = record { minutes = suc t; list = i ∷ []; place = i } ∷ []
+calibrationOf i (suc t) = waiting (suc t) (i ∷ []) i ∷ []
 
 -- those of instruments 1 to c
 unfoldable pub calibrationsTo : List ℕ → ℕ → List Batch

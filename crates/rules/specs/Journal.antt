@@ -10,7 +10,7 @@ use Rattle.rules.specs.Sheet.{Book}
 use Rattle.rules.specs.Read.{Part, gives, refuses, andThen, numberAt, endOfLine, Reading, accepted, refusedAt, read}
 use Rattle.rules.specs.Render.{columns, fields, line}
 use Rattle.rules.specs.Rewrite.{written}
-use Rattle.rules.specs.Edit.{add, withdraw, requalify, move}
+use Rattle.rules.specs.Edit.{add, withdraw, requalify, move, start}
 use Rattle.rules.specs.Run.{Call, editing, reviewing, trying, balancing, settling, Answer, refused, done, reviewed, tried, balanced, settled, bookAfter, answers, answerNumbers, recordNumbers}
 use Rattle.rules.specs.Lent.{Due, text, refusal, Hosted, intoBuffer}
 
@@ -42,6 +42,9 @@ requalifyAt r = andThen (numberAt r) (λ b r₁. andThen (listAt r₁) (λ l r�
 unfoldable pub moveAt : List ℕ → Part Call
 moveAt r = andThen (numberAt r) (λ b r₁. andThen (numberAt r₁) (λ i r₂. gives (editing (move b i)) r₂))
 
+unfoldable pub startAt : List ℕ → Part Call
+startAt r = andThen (numberAt r) (λ b r₁. gives (editing (start b)) r₁)
+
 unfoldable pub trialAt : List ℕ → Part Call
 trialAt r = andThen (numberAt r) (λ a r₁. gives (trying a) r₁)
 
@@ -52,7 +55,7 @@ balanceAt r = andThen (numberAt r) (λ c r₁. gives (balancing c) r₁)
 unfoldable pub settleAt : List ℕ → Part Call
 settleAt r = andThen (numberAt r) (λ c r₁. gives (settling c) r₁)
 
--- by the kind: 1 add, 2 withdraw, 3 requalify, 4 move, 5 review, 6 trial, 7 balance, 8 settle
+-- by the kind: 1 add, 2 withdraw, 3 requalify, 4 move, 5 review, 6 trial, 7 balance, 8 settle, 9 start
 unfoldable pub callAt : ℕ → List ℕ → Part Call
 callAt kind r =
     pick (eqb kind 1) (addAt r)
@@ -63,7 +66,8 @@ callAt kind r =
     (pick (eqb kind 6) (trialAt r)
     (pick (eqb kind 7) (balanceAt r)
     (pick (eqb kind 8) (settleAt r)
-    (refuses malformed))))))))
+    (pick (eqb kind 9) (startAt r)
+    (refuses malformed)))))))))
 
 unfoldable pub callLine : List ℕ → Part Call
 callLine r = andThen (numberAt r) (λ kind r₁. andThen (callAt kind r₁) (λ c r₂. endOfLine r₂ (λ r₃. gives c r₃)))

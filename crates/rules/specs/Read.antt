@@ -1,4 +1,5 @@
--- Document 01, "The sheet": reading goes from the front, and the first fault met decides. Document 02, C-16: line 2 has the calibrations.
+-- Document 01, "The sheet": reading goes from the front, and the first fault met decides. Document 02: line 2 has the calibrations (C-16),
+-- and a batch line has a mark of whether the batch has started (C-17).
 use Prim.Native.Nat.{ℕ, zero, suc}
 use mathlib.Core.Bool.{Bool, true, false, not}
 use mathlib.Core.List.{List, [], _∷_, _++_}
@@ -77,7 +78,11 @@ calibrationsAt (suc c) l r =
 unfoldable pub calibrationLine : ℕ → List ℕ → Part (List ℕ)
 calibrationLine m r = andThen (calibrationsAt m [] r) (λ l r₁. endOfLine r₁ (λ r₂. gives l r₂))
 
--- ---- a batch line: length, place, how many instruments, and those instruments
+-- ---- a batch line: length, place, mark, how many instruments, and those instruments
+
+-- whether the batch has started, in the next field: 1 where it has, 0 where it has not
+unfoldable pub markAt : List ℕ → Part Bool
+markAt r = andThen (numberAt r) (λ x r₁. orRefuse (leb x 1) malformed (gives (eqb x 1) r₁))
 
 -- c more instruments after those of l. Each is judged at its own field: it is one of 1 to m, and not in l already.
 unfoldable pub instrumentsAt : ℕ → ℕ → List ℕ → List ℕ → Part (List ℕ)
@@ -92,18 +97,23 @@ abbrev pub placeOr : ℕ → List ℕ → ℕ
 placeOr zero l = head l
 placeOr (suc p) l = suc p
 
+-- a place as it is given is listed, or is none for a batch that has not started
+unfoldable pub goodPlace : Bool → ℕ → List ℕ → Bool
+goodPlace s p l = (not s and eqb p 0) or mem p l
+
 -- a field's range is judged before the next field; the place is judged last, after the line's LF
 unfoldable pub batchLine : ℕ → List ℕ → Part Batch
 batchLine m r =
     andThen (numberAt r) (λ t r₁.
     orRefuse (goodMinutes t) badLength
     (andThen (placeAt r₁) (λ p r₂.
-    andThen (numberAt r₂) (λ c r₃.
+    andThen (markAt r₂) (λ s r₃.
+    andThen (numberAt r₃) (λ c r₄.
     orRefuse (leb 1 c and leb c m) badList
-    (andThen (instrumentsAt m c [] r₃) (λ l r₄.
-    endOfLine r₄ (λ r₅.
-    orRefuse (eqb p 0 or mem p l) badPlace
-    (gives (record { minutes = t; list = l; place = placeOr p l }) r₅))))))))
+    (andThen (instrumentsAt m c [] r₄) (λ l r₅.
+    endOfLine r₅ (λ r₆.
+    orRefuse (goodPlace s p l) badPlace
+    (gives (record { minutes = t; list = l; place = placeOr p l; started = s }) r₆)))))))))
 
 -- ---- a whole sheet: its book, or a refusal with its line
 

@@ -13,6 +13,8 @@ pub data Refusal : Type 0 where
   -- whoever edits
   noBatch : Refusal
   sheetFull : Refusal
+  -- document 02, C-17
+  hasStarted : Refusal
   -- the host program
   levelAbove : Refusal
   -- a buffer, or (document 02, C-14) a list for records
@@ -29,3 +31,4 @@ number sheetFull = 7
 number levelAbove = 8
 number bufferShort = 9
 number badCalibration = 10
+number hasStarted = 11

@@ -4,11 +4,11 @@ use Prim.Native.Nat.{ℕ, zero, suc, _+_, _/_, _%_, _^_}
 use mathlib.Core.Bool.{Bool}
 use mathlib.Core.List.{List, [], _∷_, _++_, map}
 use lib.ListN.{length, replicate}
-use lib.Dec.{leb, ltb, eqb}
-use Rattle.rules.specs.Fold.{_and_, _or_, pick, mem, every}
+use lib.Dec.{leb, ltb}
+use Rattle.rules.specs.Fold.{_and_, pick, every}
 use Rattle.rules.specs.Sheet.{Book, Batch, maxBatches, goodInstruments, goodMinutes, goodCalibrations, goodList}
 use Rattle.rules.specs.Field.{fieldWidth}
-use Rattle.rules.specs.Read.{placeOr}
+use Rattle.rules.specs.Read.{placeOr, goodPlace}
 
 -- v right-justified in w columns, blanks before it
 unfoldable pub columns : ℕ → ℕ → List ℕ
@@ -38,10 +38,15 @@ abbrev pub givenColumns : Given → List ℕ
 givenColumns (numbered p) = columns fieldWidth p
 givenColumns leftBlank = replicate fieldWidth 32
 
+-- whether a batch has started, as a number
+abbrev pub mark : Bool → ℕ
+mark s = pick s 1 0
+
 pub record Described : Type 0 where
   pub minutes : ℕ
   pub list : List ℕ
   pub place : Given
+  pub started : Bool
 
 pub record Description : Type 0 where
   pub m : ℕ
@@ -49,7 +54,8 @@ pub record Description : Type 0 where
   pub batches : List Described
 
 abbrev pub renderBatch : Described → List ℕ
-renderBatch b = columns fieldWidth (b .minutes) ++ (givenColumns (b .place) ++ line (length (b .list) ∷ b .list))
+renderBatch b =
+    columns fieldWidth (b .minutes) ++ (givenColumns (b .place) ++ line (mark (b .started) ∷ length (b .list) ∷ b .list))
 
 unfoldable pub renderBatches : List Described → List ℕ
 renderBatches [] = []
@@ -58,11 +64,10 @@ renderBatches (b ∷ bs) = renderBatch b ++ renderBatches bs
 unfoldable pub render : Description → List ℕ
 render d = line (d .m ∷ length (d .batches) ∷ []) ++ (line (d .calibrations) ++ renderBatches (d .batches))
 
--- a description within the limits: as a sound book, but a place may be 0 or blank
+-- a description within the limits: as a sound book, but the place of a batch that has not started may be 0 or blank
 unfoldable pub batchWithinLimits : ℕ → Described → Bool
 batchWithinLimits m b =
-    let p = givenNumber (b .place) in
-    goodMinutes (b .minutes) and goodList m (b .list) and (eqb p 0 or mem p (b .list))
+    goodMinutes (b .minutes) and goodList m (b .list) and goodPlace (b .started) (givenNumber (b .place)) (b .list)
 
 unfoldable pub withinLimits : Description → Bool
 withinLimits d =
@@ -73,14 +78,14 @@ withinLimits d =
 
 -- the book of a description: a place not given is the first listed
 abbrev pub placed : Described → Batch
-placed b = record { minutes = b .minutes; list = b .list; place = placeOr (givenNumber (b .place)) (b .list) }
+placed b = record { minutes = b .minutes; list = b .list; place = placeOr (givenNumber (b .place)) (b .list); started = b .started }
 
 abbrev pub bookSaid : Description → Book
 bookSaid d = record { m = d .m; calibrations = d .calibrations; batches = map placed (d .batches) }
 
 -- a description of a book: every place as its number
 abbrev pub describedBatch : Batch → Described
-describedBatch b = record { minutes = b .minutes; list = b .list; place = numbered (b .place) }
+describedBatch b = record { minutes = b .minutes; list = b .list; place = numbered (b .place); started = b .started }
 
 abbrev pub described : Book → Description
 described k = record { m = k .m; calibrations = k .calibrations; batches = map describedBatch (k .batches) }

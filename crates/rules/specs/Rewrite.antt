@@ -7,7 +7,7 @@ use lib.Dec.{eqb}
 use Rattle.rules.specs.Fold.{_and_, _or_}
 use Rattle.rules.specs.Sheet.{Book}
 use Rattle.rules.specs.Field.{fieldWidth}
-use Rattle.rules.specs.Render.{Given, givenNumber, Described, Description, line, render, described}
+use Rattle.rules.specs.Render.{Given, givenNumber, mark, Described, Description, line, render, described}
 
 -- the file of a book: each list in its order, each place as the instrument where the batch stands
 unfoldable pub written : Book → List ℕ
@@ -23,7 +23,7 @@ unmarked s = replicate (length s) false
 
 abbrev pub openInBatch : Described → List Bool
 openInBatch b =
-    replicate fieldWidth false ++ (replicate fieldWidth (isOpen (b .place)) ++ unmarked (line (length (b .list) ∷ b .list)))
+    replicate fieldWidth false ++ (replicate fieldWidth (isOpen (b .place)) ++ unmarked (line (mark (b .started) ∷ length (b .list) ∷ b .list)))
 
 unfoldable pub openInBatches : List Described → List Bool
 openInBatches [] = []

@@ -6,7 +6,7 @@ use lib.ListN.{length, take}
 use lib.Dec.{leb}
 use Rattle.rules.specs.Fold.{pick}
 use Rattle.rules.specs.Refusal.{Refusal, levelAbove, bufferShort, number}
-use Rattle.rules.specs.Sheet.{Book, Batch, size}
+use Rattle.rules.specs.Sheet.{Book, Batch, withPlace, size}
 use Rattle.rules.specs.Edit.{Edit, Edited, edited, edit, withBatches}
 use Rattle.rules.specs.Edit as Edit
 use Rattle.rules.specs.Instance.{Assignment, instance, places}
@@ -39,7 +39,7 @@ pub data Answer : Type 0 where
 abbrev pub placeAll : List Batch → Assignment → List Batch
 placeAll [] x = []
 placeAll (b ∷ bs) [] = b ∷ bs
-placeAll (b ∷ bs) (p ∷ x) = record { minutes = b .minutes; list = b .list; place = p } ∷ placeAll bs x
+placeAll (b ∷ bs) (p ∷ x) = withPlace b p ∷ placeAll bs x
 
 abbrev pub withPlaces : Book → Assignment → Book
 withPlaces k x = withBatches k (placeAll (k .batches) x)

@@ -1,7 +1,7 @@
--- Document 01, "The sheet" and "Runs": the limits, the book that says what a sheet holds, and when a book is sound. Document 02, C-16: the
--- calibrations.
+-- Document 01, "The sheet" and "Runs": the limits, the book that says what a sheet holds, and when a book is sound. Document 02: the
+-- calibrations (C-16), and whether a batch has started (C-17).
 use Prim.Native.Nat.{ℕ, zero, suc}
-use mathlib.Core.Bool.{Bool, true, not}
+use mathlib.Core.Bool.{Bool, true, false, not}
 use mathlib.Core.List.{List, [], _∷_}
 use lib.ListN.{length, getD}
 use lib.Dec.{leb, eqb}
@@ -23,11 +23,29 @@ maxCalibration = 240
 
 -- ---- the book
 
--- a batch: its length in minutes, the instruments that may run it in the order given, and the instrument it is on
+-- a batch: its length in minutes, the instruments that may run it in the order given, the instrument it is on, and whether it has started
+-- there
 pub record Batch : Type 0 where
   pub minutes : ℕ
   pub list : List ℕ
   pub place : ℕ
+  pub started : Bool
+
+-- one that has not started
+abbrev pub waiting : ℕ → List ℕ → ℕ → Batch
+waiting t l p = record { minutes = t; list = l; place = p; started = false }
+
+-- a batch with another place
+abbrev pub withPlace : Batch → ℕ → Batch
+withPlace b p = record { minutes = b .minutes; list = b .list; place = p; started = b .started }
+
+-- a batch with another list
+abbrev pub withList : Batch → List ℕ → Batch
+withList b l = record { minutes = b .minutes; list = l; place = b .place; started = b .started }
+
+-- a batch, started where it is
+abbrev pub begun : Batch → Batch
+begun b = record { minutes = b .minutes; list = b .list; place = b .place; started = true }
 
 -- m instruments, numbered from 1, the length in minutes of each one's calibration, 0 for none, and the batches, numbered from 1 in this
 -- order
@@ -41,7 +59,7 @@ abbrev pub size : Book → ℕ
 size k = length (k .batches)
 
 abbrev pub noBatchHere : Batch
-noBatchHere = record { minutes = 0; list = []; place = 0 }
+noBatchHere = waiting 0 [] 0
 
 -- batch number b
 abbrev pub batch : Book → ℕ → Batch

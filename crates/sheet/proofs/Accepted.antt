@@ -63,7 +63,7 @@ unfolding batchLines
 lines-most m l zero j bs [] g i h e = absurd (let z : _≡_ {A = ℕ} 0 1 = cc in omega arith)
 lines-most m l zero j bs (x ∷ r) g i h e = let z : j ≡ i = cc in omega arith
 lines-most m l (suc c) j bs r g i h e =
-    line-most j (j + suc c) _ (batch-near m 163 r h (omega arith)) e (omega arith)
+    line-most j (j + suc c) _ (batch-near m 169 r h (omega arith)) e (omega arith)
     (λ b k a d. omega (arith, lines-most m l c (suc j) (bs ++ (b ∷ [])) (drop k r) g i h d))
 
 after-most : (h : Head) (r : List ℕ) (g : R.Refusal) (i : ℕ) → Sizes h → linesAfter h r ≡ refusedAt g i → i ≤ 203

@@ -11,6 +11,7 @@ use Rattle.rules.specs.Fold.{every}
 use Rattle.rules.specs.Refusal.{malformed}
 use Rattle.rules.specs.Sheet.{Book, Batch}
 use Rattle.rules.specs.Read.{Reading, batchLine, accepted, refusedAt, batchLines}
+use Rattle.rules.specs.Render.{mark}
 use Rattle.theory.proofs.Member.{every-append, every-one}
 use Rattle.sheet.specs.declared.Refusal.the-variants.{Nothing, Malformed}
 use Rattle.sheet.specs.declared.Sheet.{Sheet}
@@ -27,13 +28,14 @@ abbrev booked : ℕ → List ℕ → List Batch → Book
 booked m l bs = record { m = m; calibrations = l; batches = bs }
 
 -- the sheet that these arrays make
-abbrev pub held : ℕ → ℕ → List ℕ → List ℕ → List ℕ → List ℕ → List ℕ → Sheet
-held m n calibrations minutes places counts lists = record {
+abbrev pub held : ℕ → ℕ → List ℕ → List ℕ → List ℕ → List ℕ → List ℕ → List ℕ → Sheet
+held m n calibrations minutes places started counts lists = record {
   m = m;
   n = n;
   calibrations = calibrations;
   minutes = minutes;
   places = places;
+  started = started;
   counts = counts;
   lists = lists;
 }
@@ -59,7 +61,7 @@ module _ (s : List ℕ) (at m n : ℕ) (calibrations : List ℕ) where
 
   -- no line is read yet
   pub none-yet : (row : List ℕ) → at ≤ length s → padded 24 calibrations ≡ row →
-      BatchesSofar (held m 0 row (replicate 200 0) (replicate 200 0) (replicate 200 0) (replicate 4800 0)) at 0
+      BatchesSofar (held m 0 row (replicate 200 0) (replicate 200 0) (replicate 200 0) (replicate 200 0) (replicate 4800 0)) at 0
   unfolding every sheetOf
   none-yet row h e =
       let c : n - 0 ≡ n = omega arith in
@@ -93,12 +95,12 @@ module _ (s : List ℕ) (at m n : ℕ) (calibrations : List ℕ) where
 
     -- one line more
     pub one-more : (x : Line) (h : next ≤ length s) → LineGiven s next h m x → i < n → n ≤ 200
-        → BatchesSofar (appended sheet (x .minutes) (x .place) (x .count) (x .list)) (x .next) (i + 1)
+        → BatchesSofar (appended sheet (x .minutes) (x .place) (x .started) (x .count) (x .list)) (x .next) (i + 1)
     one-more x h g l u =
         let b : Batch = g .batch in
-        let e : appended sheet (x .minutes) (x .place) (x .count) (x .list)
-        ≡ appended (sheetOf (booked m calibrations (f .batches))) (b .minutes) (b .place) (length (b .list)) (padded 24 (b .list)) =
-        rw (f .same, g .minutes, g .place, g .count, g .list) in
+        let e : appended sheet (x .minutes) (x .place) (x .started) (x .count) (x .list)
+        ≡ appended (sheetOf (booked m calibrations (f .batches))) (b .minutes) (b .place) (mark (b .started)) (length (b .list)) (padded 24 (b .list)) =
+        rw (f .same, g .minutes, g .place, g .started, g .count, g .list) in
         record {
           batches = f .batches ++ (b ∷ []);
           count = omega (arith, length-append (f .batches) (b ∷ []), f .count);

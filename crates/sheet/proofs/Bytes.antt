@@ -1,5 +1,5 @@
--- The first 32,759 bytes decide: line 1 has 13 bytes, line 2 at most 145 and a batch line at most 163, so the longest sheet has
--- 32,758 bytes, and one byte more shows that a file is longer.
+-- The first 33,959 bytes decide: line 1 has 13 bytes, line 2 at most 145 and a batch line at most 169, so the longest sheet has
+-- 33,958 bytes, and one byte more shows that a file is longer.
 use Prim.Native.Nat.{ℕ, zero, suc, _+_, _-_, _*_, _≤_}
 use mathlib.Core.Path.{_≡_, refl}
 use mathlib.Core.List.{List, [], _∷_, _++_}
@@ -16,7 +16,7 @@ line-near : {X : Type 0} {P : X → Type 0} {b w : ℕ} {r : List ℕ} {p q : Pa
 line-near j f (refuse e) n = refl
 line-near j f (give x k a i l) n = n x k a i
 
-lines-near : (m : ℕ) (l : List ℕ) (c j : ℕ) (bs : List Batch) (w : ℕ) (r : List ℕ) → m ≤ 24 → 163 * c + 1 ≤ w
+lines-near : (m : ℕ) (l : List ℕ) (c j : ℕ) (bs : List Batch) (w : ℕ) (r : List ℕ) → m ≤ 24 → 169 * c + 1 ≤ w
     → batchLines m l c j bs (take w r) ≡ batchLines m l c j bs r
 unfolding batchLines
 lines-near m l zero j bs zero r g h = absurd (omega arith)
@@ -26,13 +26,13 @@ lines-near m l (suc c) j bs w r g h =
     line-near j _ (batch-near m w r g (omega arith))
     (λ b k a i. lines-near m l c (suc j) (bs ++ (b ∷ [])) (w - k) (drop k r) g (omega arith))
 
-after-near : (h : Head) (w : ℕ) (r : List ℕ) → Sizes h → 145 + 163 * 200 + 1 ≤ w → linesAfter h (take w r) ≡ linesAfter h r
+after-near : (h : Head) (w : ℕ) (r : List ℕ) → Sizes h → 145 + 169 * 200 + 1 ≤ w → linesAfter h (take w r) ≡ linesAfter h r
 unfolding linesAfter
 after-near h w r a g =
     line-near 2 _ (calibration-near (h .m) w r (a .instruments) (omega arith))
     (λ l k b i. lines-near (h .m) l (h .n) 3 [] (w - k) (drop k r) (a .instruments) (omega (arith, a .batches)))
 
-pub read-bounded : (s : List ℕ) → read (take 32759 s) ≡ read s
+pub read-bounded : (s : List ℕ) → read (take 33959 s) ≡ read s
 unfolding read
 read-bounded s =
-    line-near 1 _ (head-near 32759 s (omega arith)) (λ h k a i. after-near h (32759 - k) (drop k s) a (omega arith))
+    line-near 1 _ (head-near 33959 s (omega arith)) (λ h k a i. after-near h (33959 - k) (drop k s) a (omega arith))

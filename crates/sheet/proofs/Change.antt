@@ -1,4 +1,4 @@
--- The arrays of a book's sheet after a batch is entered anew or taken out.
+-- The arrays of a book's sheet after a batch is entered anew, started or taken out.
 use Prim.Native.Nat.{ℕ, zero, suc, _-_, _*_, _≤_, _<_}
 use mathlib.Core.Path.{_≡_, refl, sym, ap, _∙_}
 use mathlib.Core.Bool.{Bool, true}
@@ -8,12 +8,13 @@ use lib.ListN.{length, getD, set, take, drop, length-set, length-map}
 use lib.Seq.{paste, split-at, set-split, map-set-same, length-take-le}
 use borrow.Author.Tests.{leb-true}
 use Rattle.rules.specs.Fold.{every}
-use Rattle.rules.specs.Sheet.{Book, Batch, size, noBatchHere}
+use Rattle.rules.specs.Sheet.{Book, Batch, withPlace, withList, begun, size, noBatchHere}
 use Rattle.rules.specs.Edit.{without, withBatches}
+use Rattle.rules.specs.Render.{mark}
 use Rattle.theory.proofs.Logic.{and-left, and-right, and-mk}
 use Rattle.theory.proofs.Member.{every-at}
 use Rattle.sheet.specs.Represent.{padded, rows, sheetOf}
-use Rattle.sheet.specs.Change.{cut, removed, replaced, requalified}
+use Rattle.sheet.specs.Change.{cut, removed, replaced, requalified, startedAt}
 use Rattle.sheet.proofs.Padded.{length-padded, set-replace, paste-replace, cut-out}
 use Rattle.sheet.proofs.Represent.{narrow, length-rows, rows-append, map-append}
 
@@ -89,13 +90,6 @@ rows-same (b ∷ bs) (suc i) c e = ap (λ (r : List ℕ). padded 24 (b .list) ++
 
 -- ---- the sheets
 
--- a batch on p; a batch on p with the list l
-abbrev pub onto : Batch → ℕ → Batch
-onto b p = record { minutes = b .minutes; list = b .list; place = p }
-
-abbrev pub relisted : Batch → List ℕ → ℕ → Batch
-relisted b l p = record { minutes = b .minutes; list = l; place = p }
-
 without-size : (bs : List Batch) (i : ℕ) → i < length bs → length (without bs i) ≡ length bs - 1
 without-size [] i h = absurd (omega arith)
 without-size (b ∷ bs) zero h = omega arith
@@ -109,6 +103,7 @@ remove-law k i h l e =
     rw (
       column-cut (λ (b : Batch). b .minutes) bs i h l,
       column-cut (λ (b : Batch). b .place) bs i h l,
+      column-cut (λ (b : Batch). mark (b .started)) bs i h l,
       column-cut (λ (b : Batch). length (b .list)) bs i h l,
       rows-cut bs i h e l,
       without-size bs i h,
@@ -116,30 +111,47 @@ remove-law k i h l e =
 
 pub move-law : (k : Book) (i p : ℕ) → i < size k →
     replaced (sheetOf k) i p
-    ≡ sheetOf (withBatches k (set (k .batches) i (onto (getD (k .batches) i noBatchHere) p)))
+    ≡ sheetOf (withBatches k (set (k .batches) i (withPlace (getD (k .batches) i noBatchHere) p)))
 unfolding sheetOf
 move-law k i p h =
     let bs = k .batches in
-    let c : Batch = onto (getD bs i noBatchHere) p in
+    let c = withPlace (getD bs i noBatchHere) p in
     rw (
       column-set (λ (b : Batch). b .place) bs i h c,
       length-set bs i c,
       map-set-same (λ (b : Batch). b .minutes) bs i c noBatchHere refl,
+      map-set-same (λ (b : Batch). mark (b .started)) bs i c noBatchHere refl,
       map-set-same (λ (b : Batch). length (b .list)) bs i c noBatchHere refl,
       rows-same bs i c refl,
     )
 
 pub requalify-law : (k : Book) (i p : ℕ) (l : List ℕ) → i < size k → every narrow (k .batches) ≡ true → length l ≤ 24 →
     requalified (sheetOf k) i p (length l) (padded 24 l)
-    ≡ sheetOf (withBatches k (set (k .batches) i (relisted (getD (k .batches) i noBatchHere) l p)))
+    ≡ sheetOf (withBatches k (set (k .batches) i (withPlace (withList (getD (k .batches) i noBatchHere) l) p)))
 unfolding sheetOf
 requalify-law k i p l h e f =
     let bs = k .batches in
-    let c : Batch = relisted (getD bs i noBatchHere) l p in
+    let c = withPlace (withList (getD bs i noBatchHere) l) p in
     rw (
       column-set (λ (b : Batch). b .place) bs i h c,
       column-set (λ (b : Batch). length (b .list)) bs i h c,
       rows-set bs i h e c f,
       length-set bs i c,
       map-set-same (λ (b : Batch). b .minutes) bs i c noBatchHere refl,
+      map-set-same (λ (b : Batch). mark (b .started)) bs i c noBatchHere refl,
+    )
+
+pub start-law : (k : Book) (i : ℕ) → i < size k →
+    startedAt (sheetOf k) i ≡ sheetOf (withBatches k (set (k .batches) i (begun (getD (k .batches) i noBatchHere))))
+unfolding sheetOf
+start-law k i h =
+    let bs = k .batches in
+    let c = begun (getD bs i noBatchHere) in
+    rw (
+      column-set (λ (b : Batch). mark (b .started)) bs i h c,
+      length-set bs i c,
+      map-set-same (λ (b : Batch). b .minutes) bs i c noBatchHere refl,
+      map-set-same (λ (b : Batch). b .place) bs i c noBatchHere refl,
+      map-set-same (λ (b : Batch). length (b .list)) bs i c noBatchHere refl,
+      rows-same bs i c refl,
     )

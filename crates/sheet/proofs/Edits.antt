@@ -9,22 +9,24 @@ use lib.Seq.{take-at}
 use lib.Dec.{leb, ltb}
 use borrow.Author.Tests.{lt-ltb, le-ltb}
 use Rattle.rules.specs.Fold.{_and_, mem}
-use Rattle.rules.specs.Sheet.{Book, Batch, size, batch, head, goodMinutes, goodList, sound}
-use Rattle.rules.specs.Edit.{Edit, add, withdraw, requalify, move, edit, edited, refused, kept, without, withBatches, withBatch}
+use Rattle.rules.specs.Sheet.{Book, Batch, waiting, withPlace, withList, begun, size, batch, head, goodMinutes, goodList, sound}
+use Rattle.rules.specs.Edit.{Edit, add, withdraw, requalify, move, start, edit, edited, refused, kept, without, withBatches, withBatch, ifWaiting}
+use Rattle.rules.specs.Render.{mark}
 use Rattle.rules.specs.Edit as E
+use Rattle.theory.proofs.Logic.{byTest}
 use Rattle.theory.proofs.Sound.{edit-sound}
 use Rattle.sheet.specs.declared.Sheet.{Sheet}
 use Rattle.sheet.specs.declared.Edited.{Edited}
 use Rattle.sheet.specs.declared.Refusal.{Refusal}
-use Rattle.sheet.specs.declared.Refusal.the-variants.{Nothing, BadLength, BadList, BadPlace, NoBatch, SheetFull}
+use Rattle.sheet.specs.declared.Refusal.the-variants.{Nothing, BadLength, BadList, BadPlace, NoBatch, SheetFull, HasStarted}
 use Rattle.sheet.specs.Represent.{padded, sheetOf, batchAt, bookOf, Sound, appended}
 use Rattle.sheet.specs.Answers.{editedAs, editOf}
-use Rattle.sheet.specs.Change.{removed, replaced, requalified}
+use Rattle.sheet.specs.Change.{removed, replaced, requalified, startedAt, barred}
 use Rattle.theory.proofs.Entries.{getD-zeros}
 use Rattle.sheet.proofs.Represent.{sheet-sound, append-law}
-use Rattle.sheet.proofs.Change.{onto, relisted, remove-law, move-law, requalify-law}
+use Rattle.sheet.proofs.Change.{remove-law, move-law, requalify-law, start-law}
 use Rattle.sheet.proofs.Scan.{in-range}
-use Rattle.sheet.proofs.SoundArrays.{book-m, book-size, book-at, number-at, is-number, few-instruments, few-batches, narrow-book, good-long}
+use Rattle.sheet.proofs.SoundArrays.{book-m, book-size, book-at, number-at, is-number, few-instruments, few-batches, narrow-book, mark-of, good-long}
 
 abbrev pub said : Refusal → Sheet → Edited
 said r s = record { refusal = r; sheet = s }
@@ -40,25 +42,13 @@ pub edit-keeps : (s : Sheet) (e : Edit) → Sound s → Sound (editOf s e .sheet
 unfolding editOf
 edit-keeps s e v = kept-sound s v (edit (bookOf s) e) (λ j q. edit-sound (bookOf s) e j (v .book) q)
 
+-- batch number b may be edited
+pub record Free (s : Sheet) (b : ℕ) : Type 0 where
+  pub number : leb 1 b and leb b (s .n) ≡ true
+  pub waits : batch (bookOf s) b .started ≡ false
+
 module _ (s : Sheet) (v : Sound s) where
-  -- ---- withdraw
-
-  pub withdraw-none : (b : ℕ) → leb 1 b and leb b (s .n) ≡ false → said NoBatch s ≡ editOf s (withdraw b)
-  unfolding editOf edit
-  withdraw-none b e = rw (is-number s b ∙ e)
-
-  pub withdraw-done : (b : ℕ) (y : Sheet) → leb 1 b and leb b (s .n) ≡ true → y ≡ removed s (b - 1) →
-      said Nothing y ≡ editOf s (withdraw b)
-  unfolding editOf edit
-  withdraw-done b y e u =
-      let r = in-range b (s .n) e in
-      let z = book-size s in
-      let q : removed s (b - 1) ≡ sheetOf (withBatches (bookOf s) (without (bookOf s .batches) (b - 1))) =
-      ap (λ (t : Sheet). removed t (b - 1)) (sym (v .arrays))
-      ∙ remove-law (bookOf s) (b - 1) (omega arith) (omega (arith, few-batches s v)) (narrow-book s v) in
-      rw (is-number s b ∙ e) (ap (said Nothing) (u ∙ q))
-
-  -- ---- move
+  -- ---- a batch that may not be edited
 
   -- batch number b as the arrays have it
   pub batch-is : (b : ℕ) → leb 1 b and leb b (s .n) ≡ true → batch (bookOf s) b ≡ batchAt s (b - 1)
@@ -66,63 +56,140 @@ module _ (s : Sheet) (v : Sound s) where
       let r = in-range b (s .n) e in
       number-at (bookOf s) b (r .0) ∙ book-at s (b - 1) (omega arith)
 
-  pub move-none : (b i : ℕ) → leb 1 b and leb b (s .n) ≡ false → said NoBatch s ≡ editOf s (move b i)
-  unfolding editOf edit
-  move-none b i e = rw (is-number s b ∙ e)
+  mark-is : (b : ℕ) → leb 1 b and leb b (s .n) ≡ true → (t : Bool) → batch (bookOf s) b .started ≡ t → getD (s .started) (b - 1) 0 ≡ mark t
+  mark-is b e t h =
+      mark-of s v (b - 1) ∙ ap mark (ap (λ (c : Batch). c .started) (sym (number-at (bookOf s) b (in-range b (s .n) e .0))) ∙ h)
 
-  pub move-strange : (b i : ℕ) → leb 1 b and leb b (s .n) ≡ true → mem i (batchAt s (b - 1) .list) ≡ false →
-      said BadPlace s ≡ editOf s (move b i)
-  unfolding editOf edit
-  move-strange b i e f = rw (is-number s b ∙ e, ap (λ (c : Batch). mem i (c .list)) (batch-is b e) ∙ f)
+  barred-none : (b : ℕ) → leb 1 b and leb b (s .n) ≡ false → barred (s .started) (s .n) b ≡ NoBatch
+  barred-none b e = rw e
 
-  pub move-done : (b i : ℕ) → leb 1 b and leb b (s .n) ≡ true → mem i (batchAt s (b - 1) .list) ≡ true →
+  barred-started : (b : ℕ) → leb 1 b and leb b (s .n) ≡ true → batch (bookOf s) b .started ≡ true
+      → barred (s .started) (s .n) b ≡ HasStarted
+  barred-started b e h = rw (e, mark-is b e true h)
+
+  barred-free : (b : ℕ) → leb 1 b and leb b (s .n) ≡ true → batch (bookOf s) b .started ≡ false
+      → barred (s .started) (s .n) b ≡ Nothing
+  barred-free b e h = rw (e, mark-is b e false h)
+
+  -- refused for its number, or because it has started, before all else
+  pub barred-first : (b : ℕ) {r : Refusal} (o : E.Edited) → r ≡ barred (s .started) (s .n) b → (r ≡ Nothing → ⊥)
+      → said r s ≡ editedAs s (ifWaiting (bookOf s) b o)
+  barred-first b o q h =
+      byTest (leb 1 b and leb b (s .n))
+      (λ t. byTest (batch (bookOf s) b .started)
+      (λ u. rw (is-number s b ∙ t, u) (ap (λ (x : Refusal). said x s) (q ∙ barred-started b t u)))
+      (λ u. absurd (h (q ∙ barred-free b t u))))
+      (λ t. rw (is-number s b ∙ t) (ap (λ (x : Refusal). said x s) (q ∙ barred-none b t)))
+
+  -- or not refused yet
+  pub is-free : (b : ℕ) {r : Refusal} → r ≡ barred (s .started) (s .n) b → r ≡ Nothing → Free s b
+  is-free b q h =
+      byTest (leb 1 b and leb b (s .n))
+      (λ t. byTest (batch (bookOf s) b .started)
+      (λ u. absurd (no-start (sym h ∙ q ∙ barred-started b t u)))
+      (λ u. record { number = t; waits = u }))
+      (λ t. absurd (no-number (sym h ∙ q ∙ barred-none b t)))
+    where
+      no-start : Nothing ≡ HasStarted → ⊥
+      no-start e = let z : _≡_ {A = ℕ} 0 1 = cc in omega arith
+
+      no-number : Nothing ≡ NoBatch → ⊥
+      no-number e = let z : _≡_ {A = ℕ} 0 1 = cc in omega arith
+
+  free-as : {b : ℕ} (o : E.Edited) → Free s b → editedAs s o ≡ editedAs s (ifWaiting (bookOf s) b o)
+  free-as {b} o f = rw (is-number s b ∙ f .number, f .waits)
+
+  -- ---- withdraw
+
+  pub withdraw-none : (b : ℕ) {r : Refusal} → r ≡ barred (s .started) (s .n) b → (r ≡ Nothing → ⊥) → said r s ≡ editOf s (withdraw b)
+  unfolding editOf edit
+  withdraw-none b q h = barred-first b _ q h
+
+  pub withdraw-done : (b : ℕ) (y : Sheet) → Free s b → y ≡ removed s (b - 1) → said Nothing y ≡ editOf s (withdraw b)
+  unfolding editOf edit
+  withdraw-done b y f u =
+      let r = in-range b (s .n) (f .number) in
+      let z = book-size s in
+      let q : removed s (b - 1) ≡ sheetOf (withBatches (bookOf s) (without (bookOf s .batches) (b - 1))) =
+      ap (λ (t : Sheet). removed t (b - 1)) (sym (v .arrays))
+      ∙ remove-law (bookOf s) (b - 1) (omega arith) (omega (arith, few-batches s v)) (narrow-book s v) in
+      ap (said Nothing) (u ∙ q) ∙ free-as _ f
+
+  -- ---- start
+
+  pub start-none : (b : ℕ) {r : Refusal} → r ≡ barred (s .started) (s .n) b → (r ≡ Nothing → ⊥) → said r s ≡ editOf s (start b)
+  unfolding editOf edit
+  start-none b q h = barred-first b _ q h
+
+  pub start-done : (b : ℕ) → Free s b → said Nothing (startedAt s (b - 1)) ≡ editOf s (start b)
+  unfolding editOf edit
+  start-done b f =
+      let r = in-range b (s .n) (f .number) in
+      let z = book-size s in
+      let q : startedAt s (b - 1) ≡ sheetOf (withBatch (bookOf s) b (begun (batch (bookOf s) b))) =
+      ap (λ (t : Sheet). startedAt t (b - 1)) (sym (v .arrays))
+      ∙ start-law (bookOf s) (b - 1) (omega arith)
+      ∙ ap (λ (c : Batch). sheetOf (withBatch (bookOf s) b (begun c))) (sym (number-at (bookOf s) b (r .0))) in
+      ap (said Nothing) q ∙ free-as _ f
+
+  -- ---- move
+
+  pub move-none : (b i : ℕ) {r : Refusal} → r ≡ barred (s .started) (s .n) b → (r ≡ Nothing → ⊥) → said r s ≡ editOf s (move b i)
+  unfolding editOf edit
+  move-none b i q h = barred-first b _ q h
+
+  pub move-strange : (b i : ℕ) → Free s b → mem i (batchAt s (b - 1) .list) ≡ false → said BadPlace s ≡ editOf s (move b i)
+  unfolding editOf edit
+  move-strange b i f g = rw (← free-as _ f, ap (λ (c : Batch). mem i (c .list)) (batch-is b (f .number)) ∙ g)
+
+  pub move-done : (b i : ℕ) → Free s b → mem i (batchAt s (b - 1) .list) ≡ true →
       said Nothing (replaced s (b - 1) i) ≡ editOf s (move b i)
   unfolding editOf edit
-  move-done b i e f =
-      let r = in-range b (s .n) e in
+  move-done b i f g =
+      let r = in-range b (s .n) (f .number) in
       let z = book-size s in
-      let q : replaced s (b - 1) i ≡ sheetOf (withBatch (bookOf s) b (onto (batch (bookOf s) b) i)) =
+      let q : replaced s (b - 1) i ≡ sheetOf (withBatch (bookOf s) b (withPlace (batch (bookOf s) b) i)) =
       ap (λ (t : Sheet). replaced t (b - 1) i) (sym (v .arrays))
       ∙ move-law (bookOf s) (b - 1) i (omega arith)
-      ∙ ap (λ (c : Batch). sheetOf (withBatch (bookOf s) b (onto c i))) (sym (number-at (bookOf s) b (r .0))) in
-      rw (is-number s b ∙ e, ap (λ (c : Batch). mem i (c .list)) (batch-is b e) ∙ f) (ap (said Nothing) q)
+      ∙ ap (λ (c : Batch). sheetOf (withBatch (bookOf s) b (withPlace c i))) (sym (number-at (bookOf s) b (r .0))) in
+      rw (← free-as _ f, ap (λ (c : Batch). mem i (c .list)) (batch-is b (f .number)) ∙ g) (ap (said Nothing) q)
 
   -- ---- requalify
 
   good-book : (l : List ℕ) {t : Bool} → goodList (s .m) l ≡ t → goodList (bookOf s .m) l ≡ t
   good-book l g = ap (λ (m : ℕ). goodList m l) (book-m s) ∙ g
 
-  pub requalify-none : (b : ℕ) (l : List ℕ) → leb 1 b and leb b (s .n) ≡ false → said NoBatch s ≡ editOf s (requalify b l)
+  pub requalify-none : (b : ℕ) (l : List ℕ) {r : Refusal} → r ≡ barred (s .started) (s .n) b → (r ≡ Nothing → ⊥)
+      → said r s ≡ editOf s (requalify b l)
   unfolding editOf edit
-  requalify-none b l e = rw (is-number s b ∙ e)
+  requalify-none b l q h = barred-first b _ q h
 
-  pub requalify-bad : (b : ℕ) (l : List ℕ) → leb 1 b and leb b (s .n) ≡ true → goodList (s .m) l ≡ false →
-      said BadList s ≡ editOf s (requalify b l)
+  pub requalify-bad : (b : ℕ) (l : List ℕ) → Free s b → goodList (s .m) l ≡ false → said BadList s ≡ editOf s (requalify b l)
   unfolding editOf edit
-  requalify-bad b l e g = rw (is-number s b ∙ e, good-book l g)
+  requalify-bad b l f g = rw (← free-as _ f, good-book l g)
 
-  pub requalify-done : (b : ℕ) (l : List ℕ) (row : List ℕ) (y : Sheet) → leb 1 b and leb b (s .n) ≡ true →
-      goodList (s .m) l ≡ true → row ≡ padded 24 l →
+  pub requalify-done : (b : ℕ) (l : List ℕ) (row : List ℕ) (y : Sheet) → Free s b → goodList (s .m) l ≡ true → row ≡ padded 24 l →
       y ≡ requalified s (b - 1) (kept (getD (s .places) (b - 1) 0) (take (length l) row)) (length l) row →
       said Nothing y ≡ editOf s (requalify b l)
   unfolding editOf edit
-  requalify-done b l row y e g d u =
-      let r = in-range b (s .n) e in
+  requalify-done b l row y f g d u =
+      let c = batch (bookOf s) b in
+      let r = in-range b (s .n) (f .number) in
       let z = book-size s in
       let w : take (length l) row ≡ l = ap (take (length l)) d ∙ take-at l (replicate (24 - length l) 0) (length l) refl in
-      let p : kept (getD (s .places) (b - 1) 0) (take (length l) row) ≡ kept (batch (bookOf s) b .place) l =
-      ap (kept (getD (s .places) (b - 1) 0)) w ∙ ap (λ (c : Batch). kept (c .place) l) (sym (batch-is b e)) in
-      let q : requalified s (b - 1) (kept (batch (bookOf s) b .place) l) (length l) (padded 24 l)
-      ≡ sheetOf (withBatch (bookOf s) b (relisted (batch (bookOf s) b) l (kept (batch (bookOf s) b .place) l))) =
-      ap (λ (t : Sheet). requalified t (b - 1) (kept (batch (bookOf s) b .place) l) (length l) (padded 24 l)) (sym (v .arrays))
-      ∙ requalify-law (bookOf s) (b - 1) (kept (batch (bookOf s) b .place) l) l (omega arith) (narrow-book s v)
+      let p : kept (getD (s .places) (b - 1) 0) (take (length l) row) ≡ kept (c .place) l =
+      ap (kept (getD (s .places) (b - 1) 0)) w ∙ ap (λ (x : Batch). kept (x .place) l) (sym (batch-is b (f .number))) in
+      let q : requalified s (b - 1) (kept (c .place) l) (length l) (padded 24 l)
+      ≡ sheetOf (withBatch (bookOf s) b (withPlace (withList c l) (kept (c .place) l))) =
+      ap (λ (t : Sheet). requalified t (b - 1) (kept (c .place) l) (length l) (padded 24 l)) (sym (v .arrays))
+      ∙ requalify-law (bookOf s) (b - 1) (kept (c .place) l) l (omega arith) (narrow-book s v)
       (omega (arith, few-instruments s v, good-long (s .m) l g .1))
-      ∙ ap (λ (c : Batch). sheetOf (withBatch (bookOf s) b (relisted c l (kept (batch (bookOf s) b .place) l))))
+      ∙ ap (λ (x : Batch). sheetOf (withBatch (bookOf s) b (withPlace (withList x l) (kept (c .place) l))))
       (sym (number-at (bookOf s) b (r .0))) in
-      rw (is-number s b ∙ e, good-book l g)
+      rw (← free-as _ f, good-book l g)
       (ap (said Nothing)
       (u ∙ ap (λ (j : ℕ). requalified s (b - 1) j (length l) row) p
-      ∙ ap (λ (j : List ℕ). requalified s (b - 1) (kept (batch (bookOf s) b .place) l) (length l) j) d
+      ∙ ap (λ (j : List ℕ). requalified s (b - 1) (kept (c .place) l) (length l) j) d
       ∙ q))
 
   -- ---- add
@@ -146,15 +213,15 @@ module _ (s : Sheet) (v : Sound s) where
 
   pub add-done : (t : ℕ) (l row : List ℕ) (y : Sheet) → s .n < 200 → leb 1 t and leb t 1440 ≡ true →
       goodList (s .m) l ≡ true →
-      row ≡ padded 24 l → y ≡ appended s t (getD row 0 0) (length l) row → said Nothing y ≡ editOf s (add t l)
+      row ≡ padded 24 l → y ≡ appended s t (getD row 0 0) 0 (length l) row → said Nothing y ≡ editOf s (add t l)
   unfolding editOf edit goodMinutes
   add-done t l row y h e g d u =
       let z = book-size s in
-      let c : Batch = record { minutes = t; list = l; place = head l } in
+      let c = waiting t l (head l) in
       let p : getD row 0 0 ≡ head l = ap (λ (r : List ℕ). getD r 0 0) d ∙ getD-zeros l (24 - length l) 0 in
-      let q : appended s t (head l) (length l) (padded 24 l) ≡ sheetOf (withBatches (bookOf s) (bookOf s .batches ++ (c ∷ []))) =
-      ap (λ (x : Sheet). appended x t (head l) (length l) (padded 24 l)) (sym (v .arrays))
+      let q : appended s t (head l) 0 (length l) (padded 24 l) ≡ sheetOf (withBatches (bookOf s) (bookOf s .batches ++ (c ∷ []))) =
+      ap (λ (x : Sheet). appended x t (head l) 0 (length l) (padded 24 l)) (sym (v .arrays))
       ∙ append-law (bookOf s) c (omega arith) (narrow-book s v) (omega (arith, few-instruments s v, good-long (s .m) l g .1)) in
       rw (room h, e, good-book l g)
       (ap (said Nothing)
-      (u ∙ ap (λ (j : ℕ). appended s t j (length l) row) p ∙ ap (λ (j : List ℕ). appended s t (head l) (length l) j) d ∙ q))
+      (u ∙ ap (λ (j : ℕ). appended s t j 0 (length l) row) p ∙ ap (λ (j : List ℕ). appended s t (head l) 0 (length l) j) d ∙ q))

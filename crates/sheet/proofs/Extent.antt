@@ -8,11 +8,11 @@ use lib.Dec.{leb, ltb, eqb}
 use lib.ListN.{length, take, drop, length-append, length-take, length-drop}
 use lib.Seq.{drop-drop, take-take, take-nil}
 use borrow.Author.Tests.{leb-true, ltb-true, ltb-false, lt-ltb, le-ltb}
-use Rattle.rules.specs.Fold.{_and_, _or_, mem}
+use Rattle.rules.specs.Fold.{_and_, mem}
 use Rattle.rules.specs.Refusal.{Refusal, malformed, badList, badCalibration}
 use Rattle.rules.specs.Sheet.{Batch, goodInstruments, goodMinutes, goodCalibration, isInstrument}
 use Rattle.rules.specs.Field.{Field, value, blank, fault, field}
-use Rattle.rules.specs.Read.{Part, gives, refuses, andThen, orRefuse, fieldPart, numberAt, blankZero, placeAt, endOfLine, Head, headLine, calibrationsAt, calibrationLine, instrumentsAt, placeOr, batchLine}
+use Rattle.rules.specs.Read.{Part, gives, refuses, andThen, orRefuse, fieldPart, numberAt, blankZero, placeAt, endOfLine, Head, headLine, calibrationsAt, calibrationLine, markAt, instrumentsAt, placeOr, goodPlace, batchLine}
 use Rattle.theory.proofs.Logic.{byTest, and-right}
 use Rattle.fields.proofs.Reading.{six, six-place}
 
@@ -114,6 +114,12 @@ last-near P x w r a =
     let e : w - 0 ≡ w = omega arith in
     subst (λ (v : ℕ). Near P 0 w r (gives x r) (gives x (take v r))) e (give x 0 a (omega arith) (omega arith))
 
+mark-near : (w : ℕ) (r : List ℕ) → 6 ≤ w → Near whatever 6 w r (markAt r) (markAt (take w r))
+unfolding markAt
+mark-near w r h =
+    then-near 0 _ (number-near w r h) (λ v k a b.
+    or-near (leb v 1) malformed (λ t. last-near whatever (eqb v 1) (w - k) (drop k r) tt))
+
 -- a list of n entries
 abbrev pub sized : ℕ → List ℕ → Type 0
 sized n l = length l ≡ n
@@ -174,19 +180,20 @@ calibration-near m w r g h =
 abbrev pub short : Batch → Type 0
 short b = length (b .list) ≤ 24
 
-pub batch-near : (m w : ℕ) (r : List ℕ) → m ≤ 24 → 163 ≤ w → Near short 163 w r (batchLine m r) (batchLine m (take w r))
+pub batch-near : (m w : ℕ) (r : List ℕ) → m ≤ 24 → 169 ≤ w → Near short 169 w r (batchLine m r) (batchLine m (take w r))
 unfolding batchLine
 batch-near m w r g h =
-    then-near 157 _ (number-near w r (omega arith)) (λ t k₁ a₁ b₁.
+    then-near 163 _ (number-near w r (omega arith)) (λ t k₁ a₁ b₁.
     or-near (goodMinutes t) _ (λ u₁.
-    then-near 151 _ (place-near (w - k₁) (drop k₁ r) (omega arith)) (λ p k₂ a₂ b₂.
-    then-near 145 _ (number-near (w - k₁ - k₂) (drop k₂ (drop k₁ r)) (omega arith)) (λ c k₃ a₃ b₃.
+    then-near 157 _ (place-near (w - k₁) (drop k₁ r) (omega arith)) (λ p k₂ a₂ b₂.
+    then-near 151 _ (mark-near (w - k₁ - k₂) (drop k₂ (drop k₁ r)) (omega arith)) (λ s k₃ a₃ b₃.
+    then-near 145 _ (number-near (w - k₁ - k₂ - k₃) (drop k₃ (drop k₂ (drop k₁ r))) (omega arith)) (λ c k₄ a₄ b₄.
     or-near (leb 1 c and leb c m) _ (λ u₂.
     let l : c ≤ m = leb-true c m (and-right (leb 1 c) _ u₂) in
     then-near 1 _
     (widen (λ (k : List ℕ). length k ≤ 24) 144 (λ k e. omega arith) (omega arith)
-    (instruments-near m c [] (w - k₁ - k₂ - k₃) (drop k₃ (drop k₂ (drop k₁ r))) (omega arith))) (λ l k₄ a₄ b₄.
-    end-near (w - k₁ - k₂ - k₃ - k₄) (drop k₄ (drop k₃ (drop k₂ (drop k₁ r)))) _ (omega arith)
-    (or-near (eqb p 0 or mem p l) _ (λ u₃.
-    last-near short (record { minutes = t; list = l; place = placeOr p l }) (w - k₁ - k₂ - k₃ - k₄ - 1)
-    (drop 1 (drop k₄ (drop k₃ (drop k₂ (drop k₁ r))))) a₄))))))))
+    (instruments-near m c [] (w - k₁ - k₂ - k₃ - k₄) (drop k₄ (drop k₃ (drop k₂ (drop k₁ r)))) (omega arith))) (λ l k₅ a₅ b₅.
+    end-near (w - k₁ - k₂ - k₃ - k₄ - k₅) (drop k₅ (drop k₄ (drop k₃ (drop k₂ (drop k₁ r))))) _ (omega arith)
+    (or-near (goodPlace s p l) _ (λ u₃.
+    last-near short (record { minutes = t; list = l; place = placeOr p l; started = s }) (w - k₁ - k₂ - k₃ - k₄ - k₅ - 1)
+    (drop 1 (drop k₅ (drop k₄ (drop k₃ (drop k₂ (drop k₁ r)))))) a₅)))))))))

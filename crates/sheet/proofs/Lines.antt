@@ -1,7 +1,7 @@
 -- The list of a batch line, an instrument at a time, and the place taken.
 use Prim.Native.Nat.{ℕ, zero, suc, _+_, _-_, _≤_, _<_}
 use mathlib.Core.Path.{_≡_, refl, sym, ap, _∙_}
-use mathlib.Core.Bool.{true, false, not}
+use mathlib.Core.Bool.{Bool, true, false, not}
 use mathlib.Core.List.{List, [], _∷_, _++_}
 use native.Mathlib.Numerals.{add-one}
 use native.Mathlib.Omega.{arith}
@@ -9,12 +9,12 @@ use lib.Dec.{leb, eqb}
 use lib.ListN.{length, set, take, drop, replicate, length-set, take-append-drop}
 use lib.Seq.{drop-drop, drop-set-lt, length-take-le, take-suc-set}
 use borrow.Author.Tests.{ne-eqb}
-use Rattle.rules.specs.Fold.{pick, _and_, _or_, mem}
+use Rattle.rules.specs.Fold.{pick, _and_, _or_, mem, every}
 use Rattle.rules.specs.Refusal.{malformed, badList}
 use Rattle.rules.specs.Sheet.{isInstrument, head}
-use Rattle.rules.specs.Read.{gives, refuses, andThen, orRefuse, numberAt, instrumentsAt, placeOr}
-use Rattle.theory.proofs.Logic.{or-skip}
-use Rattle.theory.proofs.Member.{mem-head}
+use Rattle.rules.specs.Read.{gives, refuses, andThen, orRefuse, numberAt, instrumentsAt, placeOr, goodPlace}
+use Rattle.theory.proofs.Logic.{byTest, and-no-right, or-left, or-skip}
+use Rattle.theory.proofs.Member.{mem-head, every-mem}
 use Rattle.sheet.specs.Represent.{padded}
 use Rattle.sheet.proofs.Scan.{in-range}
 
@@ -46,17 +46,26 @@ row-take k l x r h = rw add-one (take-suc-set l k x (omega (arith, r .size)))
 
 -- ---- the place
 
--- the place taken: the first listed where none is given
-pub place-taken : (p : ℕ) (l : List ℕ) → placeOr p l ≡ pick (eqb p 0) (head l) p
-place-taken zero l = refl
-place-taken (suc p) l = rw (ne-eqb (suc p) 0 (λ e. omega arith))
+-- the place taken for a given p: the first listed where p is 0 and the batch has not started
+abbrev pub taken : Bool → ℕ → List ℕ → ℕ
+taken s p l = pick (not s and eqb p 0) (head l) p
 
 -- it is listed exactly where the place is good
-pub place-listed : (p : ℕ) (l : List ℕ) → 0 < length l → eqb p 0 or mem p l ≡ mem (placeOr p l) l
-unfolding _or_
-place-listed p [] h = absurd (omega arith)
-place-listed zero (x ∷ l) h = sym (mem-head x l)
-place-listed (suc p) (x ∷ l) h = or-skip _ (ne-eqb (suc p) 0 (λ e. omega arith))
+pub place-listed : (s : Bool) (p : ℕ) (l : List ℕ) → 0 < length l → goodPlace s p l ≡ mem (taken s p l) l
+unfolding goodPlace
+place-listed s p [] h = absurd (omega arith)
+place-listed s p (x ∷ l) h =
+    byTest (not s and eqb p 0)
+    (λ t. or-left _ _ t ∙ sym (rw t (mem-head x l)))
+    (λ t. or-skip _ t ∙ rw t)
+
+-- and is the rules' place there: no list names 0
+pub place-taken : (s : Bool) (m p : ℕ) (l : List ℕ) → every (isInstrument m) l ≡ true → goodPlace s p l ≡ true
+    → taken s p l ≡ placeOr p l
+unfolding goodPlace _and_ _or_ isInstrument
+place-taken s m (suc p) l g e = rw (and-no-right (not s) (eqb (suc p) 0) (ne-eqb (suc p) 0 (λ z. omega arith)))
+place-taken false m zero l g e = refl
+place-taken true m zero l g e = absurd (omega (arith, in-range 0 m (every-mem (isInstrument m) l 0 g e) .0))
 
 -- ---- the instruments of a list, after k of c are read into l
 

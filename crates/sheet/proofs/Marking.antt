@@ -79,31 +79,31 @@ set-paste d at s n k v f g h =
 
 -- ---- the loop
 
--- a is d with the marks of the first j that l names from at on
-pub record Marked (d : List ℕ) (at : ℕ) (l : List ℕ) (n : ℕ) (a : List ℕ) (j : ℕ) : Type 0 where
+-- a is d with the marks from at on of the first j that l names from from on
+pub record Marked (d : List ℕ) (at : ℕ) (l : List ℕ) (from n : ℕ) (a : List ℕ) (j : ℕ) : Type 0 where
   pub few : j ≤ n
   pub long : length a ≡ length d
-  pub same : a ≡ paste d at (marksOf (take j (drop at l))) 24
+  pub same : a ≡ paste d at (marksOf (take j (drop from l))) 24
 
-pub marked-start : {d : List ℕ} {at : ℕ} {l : List ℕ} {n : ℕ} → paste d at (replicate 24 0) 24 ≡ d → Marked d at l n d 0
-marked-start {d} {at} {l} z = record {
+pub marked-start : {d : List ℕ} {at : ℕ} {l : List ℕ} {from n : ℕ} → paste d at (replicate 24 0) 24 ≡ d → Marked d at l from n d 0
+marked-start {d} {at} z = record {
   few = omega arith;
   long = refl;
   same = sym (ap (λ (r : List ℕ). paste d at r 24) marks-none ∙ z);
 }
 
-pub marked-step : {d : List ℕ} {at : ℕ} {l : List ℕ} {n : ℕ} {a : List ℕ} {j : ℕ} → Marked d at l n a j →
-    at + 24 ≤ length d → at + n ≤ length l → j < n →
-    (0 < getD l (at + j) 0) × (getD l (at + j) 0 ≤ 24) →
-    Marked d at l n (set a (at + (getD l (at + j) 0 - 1)) 1) (j + 1)
-marked-step {d} {at} {l} {n} {a} {j} e f g h r =
-    let x = getD l (at + j) 0 in
-    let t = take j (drop at l) in
-    let k : j < length (drop at l) = omega (arith, length-drop at l) in
-    let u : take (j + 1) (drop at l) ≡ t ++ (x ∷ []) =
-    ap (λ (i : ℕ). take i (drop at l)) (add-one j)
-    ∙ take-suc (drop at l) j 0 k
-    ∙ ap (λ (y : ℕ). t ++ (y ∷ [])) (getD-drop at l j 0) in
+pub marked-step : {d : List ℕ} {at : ℕ} {l : List ℕ} {from n : ℕ} {a : List ℕ} {j : ℕ} → Marked d at l from n a j →
+    at + 24 ≤ length d → from + n ≤ length l → j < n →
+    (0 < getD l (from + j) 0) × (getD l (from + j) 0 ≤ 24) →
+    Marked d at l from n (set a (at + (getD l (from + j) 0 - 1)) 1) (j + 1)
+marked-step {d} {at} {l} {from} {n} {a} {j} e f g h r =
+    let x = getD l (from + j) 0 in
+    let t = take j (drop from l) in
+    let k : j < length (drop from l) = omega (arith, length-drop from l) in
+    let u : take (j + 1) (drop from l) ≡ t ++ (x ∷ []) =
+    ap (λ (i : ℕ). take i (drop from l)) (add-one j)
+    ∙ take-suc (drop from l) j 0 k
+    ∙ ap (λ (y : ℕ). t ++ (y ∷ [])) (getD-drop from l j 0) in
     record {
       few = omega arith;
       long = length-set a (at + (x - 1)) 1 ∙ e .long;
@@ -113,8 +113,16 @@ marked-step {d} {at} {l} {n} {a} {j} e f g h r =
           ∙ ap (λ (s : List ℕ). paste d at s 24) (sym (ap marksOf u ∙ marks-more t x (r .0) (r .1)));
     }
 
-pub marked-end : {d : List ℕ} {at : ℕ} {l : List ℕ} {n : ℕ} {a : List ℕ} {j : ℕ} → Marked d at l n a j → n ≤ j →
-    a ≡ paste d at (marksOf (take n (drop at l))) 24
-marked-end {d} {at} {l} {n} {a} {j} e h =
+pub marked-end : {d : List ℕ} {at : ℕ} {l : List ℕ} {from n : ℕ} {a : List ℕ} {j : ℕ} → Marked d at l from n a j → n ≤ j →
+    a ≡ paste d at (marksOf (take n (drop from l))) 24
+marked-end {d} {at} {l} {from} {n} {a} {j} e h =
     let t : j ≡ n = omega (arith, e .few) in
-    e .same ∙ ap (λ (i : ℕ). paste d at (marksOf (take i (drop at l))) 24) t
+    e .same ∙ ap (λ (i : ℕ). paste d at (marksOf (take i (drop from l))) 24) t
+
+-- the mark of one instrument alone
+pub marked-one : (d : List ℕ) (at : ℕ) (l : List ℕ) (from : ℕ) → paste d at (replicate 24 0) 24 ≡ d → at + 24 ≤ length d → from < length l
+    → (0 < getD l from 0) × (getD l from 0 ≤ 24)
+    → set d (at + (getD l from 0 - 1)) 1 ≡ paste d at (marksOf (take 1 (drop from l))) 24
+marked-one d at l from z f g r =
+    let e : from + 0 ≡ from = omega arith in
+    rw e at (marked-end {n = 1} (marked-step {l = l} {from = from} {j = 0} (marked-start z) f (omega arith) (omega arith) (rw e r)) (omega arith))

@@ -7,10 +7,11 @@ use denote.Enum.Declared.{tagOf}
 use types.Run.{OneOf, miss}
 use lib.ListN.{length, drop, length-drop}
 use lib.Seq.{drop-drop}
-use Rattle.rules.specs.Refusal.{malformed, badSize, badLength, badList, badPlace, noBatch, sheetFull, levelAbove, bufferShort, badCalibration}
+use Rattle.rules.specs.Refusal.{malformed, badSize, badLength, badList, badPlace, noBatch, sheetFull, levelAbove, bufferShort, badCalibration, hasStarted}
 use Rattle.rules.specs.Refusal as R
 use Rattle.rules.specs.Sheet.{Batch}
 use Rattle.rules.specs.Read.{Part, gives, refuses, batchLine, Reading, onLine, batchLines}
+use Rattle.rules.specs.Render.{mark}
 use Rattle.sheet.specs.declared.Refusal.{Refusal}
 use Rattle.sheet.specs.declared.Refusal.the-variants.{Nothing}
 use Rattle.sheet.specs.declared.read.Line.{Line}
@@ -32,10 +33,11 @@ coded-none sheetFull q = let z : _≡_ {A = ℕ} 0 1 = cc in omega arith
 coded-none levelAbove q = let z : _≡_ {A = ℕ} 0 1 = cc in omega arith
 coded-none bufferShort q = let z : _≡_ {A = ℕ} 0 1 = cc in omega arith
 coded-none badCalibration q = let z : _≡_ {A = ℕ} 0 1 = cc in omega arith
+coded-none hasStarted q = let z : _≡_ {A = ℕ} 0 1 = cc in omega arith
 
 -- a tag of the enum other than the first is a refusal
-pub some-refusal : (e : Refusal) → OneOf (1 ∷ 2 ∷ 3 ∷ 4 ∷ 5 ∷ 6 ∷ 7 ∷ 8 ∷ 9 ∷ 10 ∷ []) (tagOf the-type e) → e ≡ Nothing → ⊥
-some-refusal e h q = miss (1 ∷ 2 ∷ 3 ∷ 4 ∷ 5 ∷ 6 ∷ 7 ∷ 8 ∷ 9 ∷ 10 ∷ []) 0 tt (rw q at h)
+pub some-refusal : (e : Refusal) → OneOf (1 ∷ 2 ∷ 3 ∷ 4 ∷ 5 ∷ 6 ∷ 7 ∷ 8 ∷ 9 ∷ 10 ∷ 11 ∷ []) (tagOf the-type e) → e ≡ Nothing → ⊥
+some-refusal e h q = miss (1 ∷ 2 ∷ 3 ∷ 4 ∷ 5 ∷ 6 ∷ 7 ∷ 8 ∷ 9 ∷ 10 ∷ 11 ∷ []) 0 tt (rw q at h)
 
 -- what follows k bytes from at on is found again by its length
 pub suffix : (s : List ℕ) (at k : ℕ) (u : List ℕ) → at ≤ length s → k ≤ length (drop at s) → drop k (drop at s) ≡ u
@@ -53,6 +55,7 @@ module _ (s : List ℕ) (at : ℕ) (h : at ≤ length s) where
     pub short : short batch
     pub minutes : i .minutes ≡ batch .minutes
     pub place : i .place ≡ batch .place
+    pub started : i .started ≡ mark (batch .started)
     pub count : i .count ≡ length (batch .list)
     pub list : i .list ≡ padded 24 (batch .list)
 
@@ -63,7 +66,7 @@ module _ (s : List ℕ) (at : ℕ) (h : at ≤ length s) where
       from : (p : Part Batch) → batchLine m (drop at s) ≡ p → i ≡ lineAs (length s) j p → LineGiven m i
       from (refuses z) q d = absurd (coded-none z (sym (ap (λ (x : Line). x .refusal) d) ∙ n))
       from (gives b u) q d =
-          took (batch-near m 163 (drop at s) g (omega arith)) q (λ a k z v.
+          took (batch-near m 169 (drop at s) g (omega arith)) q (λ a k z v.
           let f : drop (i .next) s ≡ u = ap (λ (x : Line). drop (x .next) s) d ∙ suffix s at k u h z v in
           record {
             batch = b;
@@ -72,6 +75,7 @@ module _ (s : List ℕ) (at : ℕ) (h : at ≤ length s) where
             short = a;
             minutes = ap (λ (x : Line). x .minutes) d;
             place = ap (λ (x : Line). x .place) d;
+            started = ap (λ (x : Line). x .started) d;
             count = ap (λ (x : Line). x .count) d;
             list = ap (λ (x : Line). x .list) d;
           })

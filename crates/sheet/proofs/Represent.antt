@@ -11,8 +11,9 @@ use borrow.Author.Tests.{leb-true, le-leb}
 use Rattle.rules.specs.Fold.{every}
 use Rattle.rules.specs.Sheet.{Book, Batch, size, sound, noBatchHere, goodInstruments, goodList, goodBatch}
 use Rattle.rules.specs.Edit.{withBatches}
+use Rattle.rules.specs.Render.{mark}
 use Rattle.theory.proofs.Logic.{and-left, and-right, and-mk}
-use Rattle.theory.proofs.Format.{good-calibrations-is}
+use Rattle.theory.proofs.Format.{mark-test, good-calibrations-is}
 use Rattle.theory.proofs.Sound.{sound-is, good-is}
 use Rattle.sheet.specs.declared.Sheet.{Sheet}
 use Rattle.sheet.specs.Represent.{padded, rows, sheetOf, batchAt, batchesTo, bookOf, Sound, appended}
@@ -82,6 +83,8 @@ batch-at k b e h =
     rw (
       entry-by (λ (c : Batch). c .minutes) refl bs b,
       entry-by (λ (c : Batch). c .place) refl bs b,
+      entry-by (λ (c : Batch). mark (c .started)) refl bs b,
+      mark-test (getD bs b noBatchHere .started),
       entry-by (λ (c : Batch). length (c .list)) refl bs b,
       row-at bs b (replicate (4800 - length (rows bs)) 0) e h,
     )
@@ -128,7 +131,7 @@ sheet-sound k v = record { book = rw (book-sheet k v) v; arrays = rw (book-sheet
 -- ---- one batch more
 
 pub append-law : (k : Book) (b : Batch) → size k < 200 → every narrow (k .batches) ≡ true → length (b .list) ≤ 24 →
-    appended (sheetOf k) (b .minutes) (b .place) (length (b .list)) (padded 24 (b .list))
+    appended (sheetOf k) (b .minutes) (b .place) (mark (b .started)) (length (b .list)) (padded 24 (b .list))
     ≡ sheetOf (withBatches k (k .batches ++ (b ∷ [])))
 unfolding sheetOf
 append-law k b h e l =
@@ -136,6 +139,7 @@ append-law k b h e l =
     let c = b ∷ [] in
     let t = set-append 200 (map (λ (x : Batch). x .minutes) bs) (size k) (b .minutes) (length-map bs (λ (x : Batch). x .minutes)) h in
     let p = set-append 200 (map (λ (x : Batch). x .place) bs) (size k) (b .place) (length-map bs (λ (x : Batch). x .place)) h in
+    let s = set-append 200 (map (λ (x : Batch). mark (x .started)) bs) (size k) (mark (b .started)) (length-map bs (λ (x : Batch). mark (x .started))) h in
     let n = set-append 200 (map (λ (x : Batch). length (x .list)) bs) (size k) (length (b .list))
     (length-map bs (λ (x : Batch). length (x .list))) h in
     let r = paste-append 4800 (rows bs) (padded 24 (b .list)) (size k * 24) 24 (length-rows bs e)
@@ -145,11 +149,13 @@ append-law k b h e l =
     rw (
       t,
       p,
+      s,
       n,
       r,
       length-append bs c,
       map-append (λ (x : Batch). x .minutes) bs c,
       map-append (λ (x : Batch). x .place) bs c,
+      map-append (λ (x : Batch). mark (x .started)) bs c,
       map-append (λ (x : Batch). length (x .list)) bs c,
       q,
     )

@@ -1,7 +1,7 @@
 -- What a sound sheet's arrays hold: the limits, and each batch of its book.
 use Prim.Native.Nat.{ℕ, zero, suc, _-_, _≤_, _<_}
 use mathlib.Core.Path.{_≡_, refl, sym, ap, _∙_}
-use mathlib.Core.Bool.{true}
+use mathlib.Core.Bool.{true, false}
 use mathlib.Core.List.{List, [], _∷_}
 use native.Mathlib.Omega.{arith}
 use lib.ListN.{length, getD, length-append, List·getD-append}
@@ -10,6 +10,7 @@ use lib.Dec.{leb, ltb}
 use borrow.Author.Tests.{leb-true, ltb-true, ltb-false}
 use Rattle.rules.specs.Fold.{_and_, mem, every}
 use Rattle.rules.specs.Sheet.{Book, Batch, size, batch, isBatch, noBatchHere, goodInstruments, isInstrument, goodList, goodBatch}
+use Rattle.rules.specs.Render.{mark}
 use Rattle.theory.proofs.Logic.{byTest, and-left, and-right}
 use Rattle.theory.proofs.Member.{every-at}
 use Rattle.theory.proofs.Sound.{Good, good-is, sound-is, good-batch, good-ranged}
@@ -63,6 +64,10 @@ counts-at : (k : Book) (i : ℕ) → getD (sheetOf k .counts) i 0 ≡ length (ge
 unfolding sheetOf
 counts-at k i = entry-by (λ (c : Batch). length (c .list)) refl (k .batches) i
 
+started-at : (k : Book) (i : ℕ) → getD (sheetOf k .started) i 0 ≡ mark (getD (k .batches) i noBatchHere .started)
+unfolding sheetOf
+started-at k i = entry-by (λ (c : Batch). mark (c .started)) refl (k .batches) i
+
 -- ---- a good list
 
 pub good-long : (m : ℕ) (l : List ℕ) → goodList m l ≡ true → (0 < length l) × (length l ≤ m)
@@ -106,6 +111,29 @@ module _ (s : Sheet) (v : Sound s) where
       let e : getD (s .counts) i 0 ≡ length (getD (bookOf s .batches) i noBatchHere .list) =
       ap (λ (t : Sheet). getD (t .counts) i 0) (sym (v .arrays)) ∙ counts-at (bookOf s) i in
       (omega (arith, g .0), omega (arith, g .1, few-instruments, book-m s))
+
+  -- its mark
+  pub mark-of : (i : ℕ) → getD (s .started) i 0 ≡ mark (getD (bookOf s .batches) i noBatchHere .started)
+  mark-of i = ap (λ (t : Sheet). getD (t .started) i 0) (sym (v .arrays)) ∙ started-at (bookOf s) i
+
+  pub mark-small : (i : ℕ) → getD (s .started) i 0 ≤ 1
+  mark-small i =
+      byTest (getD (bookOf s .batches) i noBatchHere .started)
+      (λ t. omega (arith, mark-of i ∙ ap mark t))
+      (λ t. omega (arith, mark-of i ∙ ap mark t))
+
+  -- 0 where it has not started, and another where it has
+  pub waits-at : (i : ℕ) → getD (s .started) i 0 ≡ 0 → getD (bookOf s .batches) i noBatchHere .started ≡ false
+  waits-at i e =
+      byTest (getD (bookOf s .batches) i noBatchHere .started)
+      (λ t. absurd (omega (arith, e, mark-of i ∙ ap mark t)))
+      (λ t. t)
+
+  pub starts-at : (i : ℕ) → (getD (s .started) i 0 ≡ 0 → ⊥) → getD (bookOf s .batches) i noBatchHere .started ≡ true
+  starts-at i e =
+      byTest (getD (bookOf s .batches) i noBatchHere .started)
+      (λ t. t)
+      (λ t. absurd (e (mark-of i ∙ ap mark t)))
 
   -- a batch's index
   pub index : (b : ℕ) → leb 1 b and leb b (s .n) ≡ true → (0 < b) × (b - 1 < s .n) × (b - 1 < 200)

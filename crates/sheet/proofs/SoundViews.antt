@@ -9,8 +9,9 @@ use lib.Dec.{leb}
 use borrow.Author.Tests.{leb-true}
 use Rattle.rules.specs.Fold.{at}
 use Rattle.rules.specs.Sheet.{Book, Batch, size, batch, noBatchHere, goodInstruments}
-use Rattle.rules.specs.Instance.{Assignment, instance, places}
+use Rattle.rules.specs.Instance.{Assignment, qualified, instance, places}
 use Rattle.rules.specs.Marks.{marksOf}
+use Rattle.rules.specs.Render.{mark}
 use Rattle.rules.specs.Run.{withPlaces}
 use Rattle.theory.proofs.Small.{Small}
 use Rattle.theory.proofs.Logic.{and-left, and-right}
@@ -48,6 +49,13 @@ view-minutes s v = ap (λ (t : Sheet). t .minutes) (sym (v .arrays)) ∙ minutes
 pub view-places : (s : Sheet) → Sound s → s .places ≡ padded 200 (map (λ (b : Batch). b .place) (bookOf s .batches))
 view-places s v = ap (λ (t : Sheet). t .places) (sym (v .arrays)) ∙ places-law (bookOf s)
 
+started-law : (k : Book) → sheetOf k .started ≡ padded 200 (map (λ (b : Batch). mark (b .started)) (k .batches))
+unfolding sheetOf
+started-law k = refl
+
+pub view-started : (s : Sheet) → Sound s → s .started ≡ padded 200 (map (λ (b : Batch). mark (b .started)) (bookOf s .batches))
+view-started s v = ap (λ (t : Sheet). t .started) (sym (v .arrays)) ∙ started-law (bookOf s)
+
 counts-law : (k : Book) → sheetOf k .counts ≡ padded 200 (map (λ (b : Batch). length (b .list)) (k .batches))
 unfolding sheetOf
 counts-law k = refl
@@ -71,12 +79,12 @@ minutes-at k (suc b) = entry-by (λ (c : Batch). c .minutes) refl (k .batches) b
 
 -- the row of the batch at index b, whatever follows the rows
 pub marks-row : (bs : List Batch) (r : List ℕ) (b : ℕ) → b < length bs →
-    take 24 (drop (b * 24) (markRows bs ++ r)) ≡ marksOf (getD bs b noBatchHere .list)
+    take 24 (drop (b * 24) (markRows bs ++ r)) ≡ marksOf (qualified (getD bs b noBatchHere))
 unfolding markRows
 marks-row [] r b h = absurd (omega arith)
-marks-row (c ∷ bs) r zero h = rw append-assoc (take-at (marksOf (c .list)) (markRows bs ++ r) 24 (length-marks (c .list)))
+marks-row (c ∷ bs) r zero h = rw append-assoc (take-at (marksOf (qualified c)) (markRows bs ++ r) 24 (length-marks (qualified c)))
 marks-row (c ∷ bs) r (suc b) h =
-    let e : suc b * 24 ≡ length (marksOf (c .list)) + b * 24 = omega (arith, length-marks (c .list)) in
+    let e : suc b * 24 ≡ length (marksOf (qualified c)) + b * 24 = omega (arith, length-marks (qualified c)) in
     rw (append-assoc, e, drop-append-add) (marks-row bs r b (omega arith))
 
 -- ---- the limits

@@ -2,7 +2,7 @@
 use Prim.Native.Nat.{ℕ}
 use mathlib.Core.Path.{_≡_, refl}
 use mathlib.Core.List.{List, [], _∷_}
-use Rattle.rules.specs.Refusal.{malformed, badSize, badLength, badList, badPlace, noBatch, sheetFull, levelAbove, bufferShort, badCalibration, number}
+use Rattle.rules.specs.Refusal.{malformed, badSize, badLength, badList, badPlace, noBatch, sheetFull, levelAbove, bufferShort, badCalibration, hasStarted, number}
 use Rattle.rules.specs.Refusal as R
 use Rattle.rules.specs.Edit as E
 use Rattle.rules.specs.Read as D
@@ -11,7 +11,7 @@ use Rattle.sheet.specs.declared.Sheet.{Sheet}
 use Rattle.sheet.specs.declared.Edited.{Edited}
 use Rattle.sheet.specs.declared.Reading.{Reading}
 use Rattle.sheet.specs.declared.Refusal.{Refusal}
-use Rattle.sheet.specs.declared.Refusal.the-variants.{Nothing, Malformed, BadSize, BadLength, BadList, BadPlace, NoBatch, SheetFull, LevelAbove, BufferShort, BadCalibration}
+use Rattle.sheet.specs.declared.Refusal.the-variants.{Nothing, Malformed, BadSize, BadLength, BadList, BadPlace, NoBatch, SheetFull, LevelAbove, BufferShort, BadCalibration, HasStarted}
 use Rattle.sheet.specs.Represent.{sheetOf, bookOf, blank}
 
 -- a refusal's number; 0 for none
@@ -27,6 +27,7 @@ numberOf SheetFull = 7
 numberOf LevelAbove = 8
 numberOf BufferShort = 9
 numberOf BadCalibration = 10
+numberOf HasStarted = 11
 
 -- the enum's case for each refusal of the rules
 abbrev pub coded : R.Refusal → Refusal
@@ -40,6 +41,7 @@ coded sheetFull = SheetFull
 coded levelAbove = LevelAbove
 coded bufferShort = BufferShort
 coded badCalibration = BadCalibration
+coded hasStarted = HasStarted
 
 -- a refusal and its case have one number
 pub coded-number : (e : R.Refusal) → numberOf (coded e) ≡ number e
@@ -53,6 +55,7 @@ coded-number sheetFull = refl
 coded-number levelAbove = refl
 coded-number bufferShort = refl
 coded-number badCalibration = refl
+coded-number hasStarted = refl
 
 -- ---- edits: on a refusal the very same sheet
 

@@ -1,9 +1,14 @@
--- What an edit does to the arrays of a sheet: a batch taken out, a place entered, a list and a place entered.
+-- What an edit does to the arrays of a sheet: a batch taken out, a place entered, a list and a place entered, a batch started; and which
+-- batches it may not touch.
 use Prim.Native.Nat.{ℕ, _+_, _-_, _*_}
 use mathlib.Core.List.{List, _++_}
-use lib.ListN.{set, take, drop, replicate}
+use lib.ListN.{getD, set, take, drop, replicate}
 use lib.Seq.{paste}
+use lib.Dec.{leb, eqb}
+use Rattle.rules.specs.Fold.{_and_, pick}
 use Rattle.sheet.specs.declared.Sheet.{Sheet}
+use Rattle.sheet.specs.declared.Refusal.{Refusal}
+use Rattle.sheet.specs.declared.Refusal.the-variants.{Nothing, NoBatch, HasStarted}
 
 -- xs without its by entries from at on, and as many 0 at its end
 unfoldable pub cut : ℕ → ℕ → List ℕ → List ℕ
@@ -17,6 +22,7 @@ removed s i = record {
   calibrations = s .calibrations;
   minutes = cut i 1 (s .minutes);
   places = cut i 1 (s .places);
+  started = cut i 1 (s .started);
   counts = cut i 1 (s .counts);
   lists = cut (i * 24) 24 (s .lists);
 }
@@ -29,6 +35,7 @@ replaced s i p = record {
   calibrations = s .calibrations;
   minutes = s .minutes;
   places = set (s .places) i p;
+  started = s .started;
   counts = s .counts;
   lists = s .lists;
 }
@@ -41,6 +48,25 @@ requalified s i p c row = record {
   calibrations = s .calibrations;
   minutes = s .minutes;
   places = set (s .places) i p;
+  started = s .started;
   counts = set (s .counts) i c;
   lists = paste (s .lists) (i * 24) row 24;
 }
+
+-- the batch at the index i started
+abbrev pub startedAt : Sheet → ℕ → Sheet
+startedAt s i = record {
+  m = s .m;
+  n = s .n;
+  calibrations = s .calibrations;
+  minutes = s .minutes;
+  places = s .places;
+  started = set (s .started) i 1;
+  counts = s .counts;
+  lists = s .lists;
+}
+
+-- why batch number b of n, those with an entry other than 0 having started, may not be edited
+abbrev pub barred : List ℕ → ℕ → ℕ → Refusal
+barred started n b =
+    pick (leb 1 b and leb b n) (pick (eqb (getD started (b - 1) 0) 0) Nothing HasStarted) NoBatch

@@ -1,12 +1,12 @@
 -- What the readers of line 2 and of a batch line answer, by the rules.
 use Prim.Native.Nat.{ℕ, _-_}
+use mathlib.Core.Bool.{Bool}
 use mathlib.Core.List.{List, []}
 use lib.ListN.{length, replicate}
-use lib.Dec.{eqb}
-use Rattle.rules.specs.Fold.{_or_, mem}
 use Rattle.rules.specs.Refusal.{badPlace}
 use Rattle.rules.specs.Sheet.{Batch}
-use Rattle.rules.specs.Read.{Part, gives, refuses, andThen, orRefuse, endOfLine, instrumentsAt, placeOr}
+use Rattle.rules.specs.Read.{Part, gives, refuses, andThen, orRefuse, endOfLine, instrumentsAt, placeOr, goodPlace}
+use Rattle.rules.specs.Render.{mark}
 use Rattle.sheet.specs.declared.Reading.{Reading}
 use Rattle.sheet.specs.declared.Refusal.{Refusal}
 use Rattle.sheet.specs.declared.Refusal.the-variants.{Nothing}
@@ -32,6 +32,7 @@ noLine e j = record {
   line = j;
   minutes = 0;
   place = 0;
+  started = 0;
   count = 0;
   list = replicate 24 0;
   next = 0;
@@ -43,19 +44,20 @@ lineAs w j (gives b r) = record {
   line = 0;
   minutes = b .minutes;
   place = b .place;
+  started = mark (b .started);
   count = length (b .list);
   list = padded 24 (b .list);
   next = w - length r;
 }
 lineAs w j (refuses e) = noLine (coded e) j
 
--- a batch line of t minutes and place p, from its list of c instruments on
-abbrev pub lineList : ℕ → ℕ → ℕ → ℕ → List ℕ → Part Batch
-lineList m t p c r =
+-- a batch line of t minutes, place p and mark s, from its list of c instruments on
+abbrev pub lineList : ℕ → ℕ → ℕ → Bool → ℕ → List ℕ → Part Batch
+lineList m t p s c r =
     andThen (instrumentsAt m c [] r) (λ l r₁.
     endOfLine r₁ (λ r₂.
-    orRefuse (eqb p 0 or mem p l) badPlace
-    (gives (record { minutes = t; list = l; place = placeOr p l }) r₂)))
+    orRefuse (goodPlace s p l) badPlace
+    (gives (record { minutes = t; list = l; place = placeOr p l; started = s }) r₂)))
 
 -- ---- a sheet that is refused: no sheet
 

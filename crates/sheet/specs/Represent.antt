@@ -5,7 +5,9 @@ use mathlib.Core.Bool.{true}
 use mathlib.Core.List.{List, [], _∷_, _++_, map}
 use lib.ListN.{length, getD, set, take, drop, replicate}
 use lib.Seq.{paste}
+use lib.Dec.{eqb}
 use Rattle.rules.specs.Sheet.{Book, Batch, size, sound}
+use Rattle.rules.specs.Render.{mark}
 use Rattle.sheet.specs.declared.Sheet.{Sheet}
 
 -- a list in w entries, 0 past its end
@@ -24,6 +26,7 @@ sheetOf k = record {
   calibrations = padded 24 (k .calibrations);
   minutes = padded 200 (map (λ (b : Batch). b .minutes) (k .batches));
   places = padded 200 (map (λ (b : Batch). b .place) (k .batches));
+  started = padded 200 (map (λ (b : Batch). mark (b .started)) (k .batches));
   counts = padded 200 (map (λ (b : Batch). length (b .list)) (k .batches));
   lists = padded 4800 (rows (k .batches));
 }
@@ -34,6 +37,7 @@ batchAt s b = record {
   minutes = getD (s .minutes) b 0;
   list = take (getD (s .counts) b 0) (drop (b * 24) (s .lists));
   place = getD (s .places) b 0;
+  started = eqb (getD (s .started) b 0) 1;
 }
 
 -- the batches at the indices below c
@@ -49,14 +53,15 @@ pub record Sound (s : Sheet) : Type 0 where
   pub book : sound (bookOf s) ≡ true
   pub arrays : sheetOf (bookOf s) ≡ s
 
--- a sheet's arrays with one batch more, whose list of c instruments stands at the front of row
-abbrev pub appended : Sheet → ℕ → ℕ → ℕ → List ℕ → Sheet
-appended s t p c row = record {
+-- a sheet's arrays with one batch more, whose mark is v and whose list of c instruments stands at the front of row
+abbrev pub appended : Sheet → ℕ → ℕ → ℕ → ℕ → List ℕ → Sheet
+appended s t p v c row = record {
   m = s .m;
   n = s .n + 1;
   calibrations = s .calibrations;
   minutes = set (s .minutes) (s .n) t;
   places = set (s .places) (s .n) p;
+  started = set (s .started) (s .n) v;
   counts = set (s .counts) (s .n) c;
   lists = paste (s .lists) (s .n * 24) row 24;
 }
@@ -69,6 +74,7 @@ blank = record {
   calibrations = replicate 24 0;
   minutes = replicate 200 0;
   places = replicate 200 0;
+  started = replicate 200 0;
   counts = replicate 200 0;
   lists = replicate 4800 0;
 }

@@ -4,10 +4,10 @@ ghost use mathlib.Core.Path.{_≡_};
 ghost use lib.ListN.{length, getD, take, drop};
 ghost use Rattle.rules.specs.Fold.{mem};
 ghost use Rattle.rules.specs.Sheet.{goodList};
-ghost use Rattle.rules.specs.Edit.{kept, add as adding, withdraw as withdrawing, requalify as requalifying, move as moving};
+ghost use Rattle.rules.specs.Edit.{kept, add as adding, withdraw as withdrawing, requalify as requalifying, move as moving, start as starting};
 ghost use Rattle.sheet.specs.Represent.{Sound, padded};
 ghost use Rattle.sheet.specs.Answers.{EditAnswered};
-ghost use Rattle.sheet.specs.Change.{cut, removed, requalified};
+ghost use Rattle.sheet.specs.Change.{cut, removed, requalified, barred};
 use crate::Edited;
 use crate::Refusal;
 use crate::Sheet;
@@ -44,7 +44,7 @@ impl Sheet {
         }
         let row = row_of(list);
         let place = row[0];
-        let sheet = self.appended(minutes as u16, place, list.len() as u8, row);
+        let sheet = self.appended(minutes as u16, place, 0, list.len() as u8, row);
         Edited {
             refusal: Refusal::Nothing,
             sheet,
@@ -57,13 +57,15 @@ impl Sheet {
         ensures { λ r. ⌜ EditAnswered self (withdrawing batch) r ⌝ }
     {
         let n = self.n;
+        let started = self.started;
         let b = batch as usize;
-        if !within(b, n) {
+        let e = refusal_of(&started, n, b);
+        let Refusal::Nothing = e else {
             return Edited {
-                refusal: Refusal::NoBatch,
+                refusal: e,
                 sheet: self,
             };
-        }
+        };
         let sheet = self.removed(b - 1);
         Edited {
             refusal: Refusal::Nothing,
@@ -78,13 +80,15 @@ impl Sheet {
     {
         let n = self.n;
         let m = self.m;
+        let started = self.started;
         let b = batch as usize;
-        if !within(b, n) {
+        let e = refusal_of(&started, n, b);
+        let Refusal::Nothing = e else {
             return Edited {
-                refusal: Refusal::NoBatch,
+                refusal: e,
                 sheet: self,
             };
-        }
+        };
         if !good_list(list, m) {
             return Edited {
                 refusal: Refusal::BadList,
@@ -105,13 +109,15 @@ impl Sheet {
         ensures { λ r. ⌜ EditAnswered self (moving batch instrument) r ⌝ }
     {
         let n = self.n;
+        let started = self.started;
         let b = batch as usize;
-        if !within(b, n) {
+        let e = refusal_of(&started, n, b);
+        let Refusal::Nothing = e else {
             return Edited {
-                refusal: Refusal::NoBatch,
+                refusal: e,
                 sheet: self,
             };
-        }
+        };
         let at = b - 1;
         let count = self.counts[at];
         let lists = self.lists;
@@ -122,6 +128,28 @@ impl Sheet {
             };
         }
         self.places[at] = instrument as u8;
+        Edited {
+            refusal: Refusal::Nothing,
+            sheet: self,
+        }
+    }
+
+    // The batch started where it is.
+    pub fn start(mut self, batch: u32) -> Edited
+        requires { ⌜ Sound self ⌝ }
+        ensures { λ r. ⌜ EditAnswered self (starting batch) r ⌝ }
+    {
+        let n = self.n;
+        let started = self.started;
+        let b = batch as usize;
+        let e = refusal_of(&started, n, b);
+        let Refusal::Nothing = e else {
+            return Edited {
+                refusal: e,
+                sheet: self,
+            };
+        };
+        self.started[b - 1] = 1;
         Edited {
             refusal: Refusal::Nothing,
             sheet: self,
@@ -139,6 +167,8 @@ impl Sheet {
         shift_minutes(&mut minutes, at, 1);
         let mut places = self.places;
         shift_down(&mut places, at, 1);
+        let mut started = self.started;
+        shift_down(&mut started, at, 1);
         let mut counts = self.counts;
         shift_down(&mut counts, at, 1);
         let mut lists = self.lists;
@@ -150,6 +180,7 @@ impl Sheet {
             calibrations,
             minutes,
             places,
+            started,
             counts,
             lists,
         }
@@ -173,6 +204,20 @@ impl Sheet {
         self.lists = lists;
         self
     }
+}
+
+// Why batch number b of n may not be edited: there is none, or it has started; Nothing where it may.
+fn refusal_of(started: &[u8], n: usize, b: usize) -> Refusal
+    requires { ⌜ n ≤ length (now started) ⌝ }
+    ensures { λ r. ⌜ r ≡ barred (now (started .entry)) n b ⌝ }
+{
+    if !within(b, n) {
+        return Refusal::NoBatch;
+    }
+    if started[b - 1] != 0 {
+        return Refusal::HasStarted;
+    }
+    Refusal::Nothing
 }
 
 // A list that a batch may have on m instruments. A long one is refused before repeats are looked for.

@@ -27,6 +27,7 @@ pub enum Refusal {
     LevelAbove,
     BufferShort,
     BadCalibration,
+    HasStarted,
 }
 
 // A refusal's number; 0 for none.
@@ -45,17 +46,19 @@ pub fn code(refusal: Refusal) -> u32
         Refusal::LevelAbove => 8,
         Refusal::BufferShort => 9,
         Refusal::BadCalibration => 10,
+        Refusal::HasStarted => 11,
     }
 }
 
-// What a sheet holds, in arrays: a calibration for each instrument, 0 for none, and the batches; batch b's list starts at 24 (b - 1) in
-// lists. Whatever is not used is 0.
+// What a sheet holds, in arrays: a calibration for each instrument, 0 for none, and the batches, 1 in started for each that has started;
+// batch b's list starts at 24 (b - 1) in lists. Whatever is not used is 0.
 pub struct Sheet {
     m: usize,
     n: usize,
     calibrations: [u8; 24],
     minutes: [u16; 200],
     places: [u8; 200],
+    started: [u8; 200],
     counts: [u8; 200],
     lists: [u8; 4800],
 }
@@ -92,19 +95,21 @@ impl Sheet {
             calibrations: [0u8; 24],
             minutes: [0u16; 200],
             places: [0u8; 200],
+            started: [0u8; 200],
             counts: [0u8; 200],
             lists: [0u8; 4800],
         }
     }
 
     // One batch more, the last; its list stands at the front of row.
-    fn appended(mut self, minutes: u16, place: u8, count: u8, row: [u8; 24]) -> Sheet
+    fn appended(mut self, minutes: u16, place: u8, started: u8, count: u8, row: [u8; 24]) -> Sheet
         requires { ⌜ self .n < 200 ⌝ }
-        ensures { λ r. ⌜ r ≡ appended self minutes place count row ⌝ }
+        ensures { λ r. ⌜ r ≡ appended self minutes place started count row ⌝ }
     {
         let n = self.n;
         self.minutes[n] = minutes;
         self.places[n] = place;
+        self.started[n] = started;
         self.counts[n] = count;
         let mut lists = self.lists;
         enter_part(&mut lists, n * 24, &row, 24);

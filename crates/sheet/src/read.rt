@@ -1,10 +1,11 @@
 // Reading a sheet: lines, and the whole, each up to the first fault it meets.
 ghost use mathlib.Core.Path.{_≡_};
+ghost use mathlib.Core.Bool.{not};
 ghost use mathlib.Core.List.{[]};
 ghost use Prim.Native.Nat.{_≤_, _<_};
 ghost use lib.Dec.{eqb};
 ghost use lib.ListN.{length, take, drop};
-ghost use Rattle.rules.specs.Fold.{pick};
+ghost use Rattle.rules.specs.Fold.{_and_, pick};
 ghost use Rattle.rules.specs.Read.{calibrationLine, batchLine, batchLines, linesAfter};
 ghost use Rattle.sheet.specs.Represent.{padded};
 ghost use Rattle.sheet.specs.Lines.{noCalibrations, calibratedAs, noLine, lineAs, lineList, unread};
@@ -77,6 +78,7 @@ struct Line {
     line: usize,
     minutes: u16,
     place: u8,
+    started: u8,
     count: u8,
     list: [u8; 24],
     next: usize,
@@ -91,6 +93,7 @@ impl Line {
             line,
             minutes: 0,
             place: 0,
+            started: 0,
             count: 0,
             list: [0u8; 24],
             next: 0,
@@ -98,10 +101,13 @@ impl Line {
     }
 }
 
-// The place p, or the first listed where p is 0.
-fn place_or(p: u32, first: u8) -> u32
-    ensures { λ r. ⌜ r ≡ pick (eqb p 0) first p ⌝ }
+// The place p, or the first listed where p is 0 and the batch has not started.
+fn place_or(p: u32, started: u8, first: u8) -> u32
+    ensures { λ r. ⌜ r ≡ pick (not (eqb started 1) and eqb p 0) first p ⌝ }
 {
+    if started == 1 {
+        return p;
+    }
     if p == 0 {
         return first as u32;
     }
@@ -109,7 +115,7 @@ fn place_or(p: u32, first: u8) -> u32
 }
 
 // A batch line from its list on: the instruments, each judged at its own field, the LF, and then the place, for which the first
-// listed is taken where it is 0.
+// listed is taken where it is 0 and the batch has not started.
 fn line_list(
     s: &[u8],
     at: usize,
@@ -117,10 +123,11 @@ fn line_list(
     m: usize,
     minutes: u16,
     place: u32,
+    started: u8,
     count: usize,
 ) -> Line
-    requires { ⌜ (at ≤ length (now s)) × (m ≤ 24) × (0 < count) × (count ≤ m) ⌝ }
-    ensures { λ r. ⌜ r ≡ lineAs (length (now (s .entry))) line (lineList m minutes place count (drop at (now (s .entry)))) ⌝ }
+    requires { ⌜ (at ≤ length (now s)) × (m ≤ 24) × (started ≤ 1) × (0 < count) × (count ≤ m) ⌝ }
+    ensures { λ r. ⌜ r ≡ lineAs (length (now (s .entry))) line (lineList m minutes place (eqb started 1) count (drop at (now (s .entry)))) ⌝ }
 {
     let mut list = [0u8; 24];
     let mut k = 0;
@@ -142,7 +149,7 @@ fn line_list(
     if !ends_at(s, next) {
         return Line::refused(Refusal::Malformed, line);
     }
-    let p = place_or(place, list[0]);
+    let p = place_or(place, started, list[0]);
     if !listed(&list, 0, count, p) {
         return Line::refused(Refusal::BadPlace, line);
     }
@@ -151,6 +158,7 @@ fn line_list(
         line: 0,
         minutes,
         place: p as u8,
+        started,
         count: count as u8,
         list,
         next: next + 1,
@@ -173,14 +181,21 @@ fn batch_line(s: &[u8], at: usize, line: usize, m: usize) -> Line
         return Line::refused(Refusal::Malformed, line);
     };
     let third = second + 6;
-    let Field::Value(c) = field_at(s, third) else {
+    let Field::Value(v) = field_at(s, third) else {
+        return Line::refused(Refusal::Malformed, line);
+    };
+    if 1 < v {
+        return Line::refused(Refusal::Malformed, line);
+    }
+    let fourth = third + 6;
+    let Field::Value(c) = field_at(s, fourth) else {
         return Line::refused(Refusal::Malformed, line);
     };
     if !within(c as usize, m) {
         return Line::refused(Refusal::BadList, line);
     }
-    let fourth = third + 6;
-    line_list(s, fourth, line, m, t as u16, p, c as usize)
+    let fifth = fourth + 6;
+    line_list(s, fifth, line, m, t as u16, p, v as u8, c as usize)
 }
 
 // A sheet that is refused at a line: the blank value stands in the sheet's place.
@@ -202,6 +217,7 @@ fn batch_lines(s: &[u8], at: usize, m: usize, n: usize, calibrations: [u8; 24]) 
 {
     let mut minutes = [0u16; 200];
     let mut places = [0u8; 200];
+    let mut started = [0u8; 200];
     let mut counts = [0u8; 200];
     let mut lists = [0u8; 4800];
     let mut next = at;
@@ -214,6 +230,7 @@ fn batch_lines(s: &[u8], at: usize, m: usize, n: usize, calibrations: [u8; 24]) 
         };
         minutes[i] = b.minutes;
         places[i] = b.place;
+        started[i] = b.started;
         counts[i] = b.count;
         let row = b.list;
         enter_part(&mut lists, i * Sheet::INSTRUMENTS, &row, Sheet::INSTRUMENTS);
@@ -229,6 +246,7 @@ fn batch_lines(s: &[u8], at: usize, m: usize, n: usize, calibrations: [u8; 24]) 
         calibrations,
         minutes,
         places,
+        started,
         counts,
         lists,
     };

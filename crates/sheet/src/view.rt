@@ -6,6 +6,7 @@ ghost use lib.ListN.{length, getD, take, drop, replicate};
 ghost use lib.Seq.{paste};
 ghost use Rattle.rules.specs.Sheet.{Batch, size};
 ghost use Rattle.rules.specs.Marks.{marksOf};
+ghost use Rattle.rules.specs.Render.{mark};
 ghost use Rattle.rules.specs.Run.{withPlaces};
 ghost use Rattle.sheet.specs.Represent.{Sound, padded, rows, bookOf, sheetOf};
 ghost use Rattle.sheet.specs.View.{markRows, keptPlaces};
@@ -51,6 +52,14 @@ impl Sheet {
         self.places
     }
 
+    // 1 for each batch that has started; 0 past the last batch.
+    pub fn started(self) -> [u8; 200]
+        requires { ⌜ Sound self ⌝ }
+        ensures { λ r. ⌜ r ≡ padded 200 (map (λ (b : Batch). mark (b .started)) (bookOf self .batches)) ⌝ }
+    {
+        self.started
+    }
+
     // How many instruments each batch's list has; 0 past the last batch.
     pub fn counts(self) -> [u8; 200]
         requires { ⌜ Sound self ⌝ }
@@ -67,36 +76,47 @@ impl Sheet {
         self.lists
     }
 
-    // 1 at 24 (b - 1) + (i - 1) where instrument i may run batch b; 0 elsewhere.
+    // 1 at 24 (b - 1) + (i - 1) where instrument i counts as qualified for batch b, which for a started one is its place alone; 0
+    // elsewhere.
     pub fn eligibility(self) -> [u8; 4800]
         requires { ⌜ Sound self ⌝ }
         ensures { λ r. ⌜ r ≡ padded 4800 (markRows (bookOf self .batches)) ⌝ }
     {
         let n = self.n;
+        let started = self.started;
+        let places = self.places;
         let counts = self.counts;
         let lists = self.lists;
         let mut marks = [0u8; 4800];
         let mut i = 0;
         while i < n {
-            mark_row(&mut marks, i * 24, &lists, counts[i] as usize);
+            if started[i] == 0 {
+                mark_row(&mut marks, i * 24, &lists, counts[i] as usize);
+            } else {
+                let p = places[i] as usize;
+                marks[i * 24 + (p - 1)] = 1;
+            }
             i += 1;
         }
         marks
     }
 
-    // Each batch on its place in x where its list has that, and on the first listed otherwise.
+    // Each batch that has not started on its place in x where its list has that, and on the first listed otherwise; each other where it is.
     pub fn with_places(mut self, x: [u8; 200]) -> Sheet
         requires { ⌜ Sound self ⌝ }
         ensures { λ r. ⌜ (r ≡ sheetOf (withPlaces (bookOf self) (keptPlaces (bookOf self) x))) × Sound r ⌝ }
     {
         let n = self.n;
+        let started = self.started;
         let counts = self.counts;
         let lists = self.lists;
         let mut places = self.places;
         let mut b = 0;
         while b < n {
-            let p = x[b];
-            places[b] = kept_in(&lists, b * Sheet::INSTRUMENTS, counts[b] as usize, p);
+            if started[b] == 0 {
+                let p = x[b];
+                places[b] = kept_in(&lists, b * Sheet::INSTRUMENTS, counts[b] as usize, p);
+            }
             b += 1;
         }
         self.places = places;

@@ -1,7 +1,7 @@
 -- Writing, then reading: the file of a description within the limits is read as the description's book.
-use Prim.Native.Nat.{ℕ, suc, _^_, _≤_, _<_}
+use Prim.Native.Nat.{ℕ, zero, suc, _^_, _≤_, _<_}
 use mathlib.Core.Path.{_≡_, refl, sym, ap, _∙_}
-use mathlib.Core.Bool.{true, false, not}
+use mathlib.Core.Bool.{Bool, true, false, not}
 use mathlib.Core.List.{List, [], _∷_, _++_, map, append-nil, append-assoc}
 use native.Mathlib.Omega.{arith}
 use lib.ListN.{length, drop, replicate}
@@ -11,8 +11,8 @@ use borrow.Author.Tests.{leb-true, eqb-true, eqb-false, ne-eqb, not-true}
 use Rattle.rules.specs.Fold.{_and_, _or_, mem, every}
 use Rattle.rules.specs.Sheet.{Batch, maxBatches, goodInstruments, goodMinutes, goodCalibration, goodCalibrations, isInstrument, distinct, goodList}
 use Rattle.rules.specs.Field.{Field}
-use Rattle.rules.specs.Read.{gives, fieldPart, numberAt, blankZero, placeAt, endOfLine, headLine, calibrationsAt, calibrationLine, instrumentsAt, batchLine, accepted, batchLines, linesAfter, read}
-use Rattle.rules.specs.Render.{columns, fields, line, Given, numbered, leftBlank, givenNumber, givenColumns, Described, Description, renderBatch, renderBatches, render, batchWithinLimits, withinLimits, placed, bookSaid}
+use Rattle.rules.specs.Read.{gives, fieldPart, numberAt, blankZero, placeAt, endOfLine, headLine, calibrationsAt, calibrationLine, markAt, instrumentsAt, goodPlace, batchLine, accepted, batchLines, linesAfter, read}
+use Rattle.rules.specs.Render.{columns, fields, line, Given, numbered, leftBlank, givenNumber, givenColumns, mark, Described, Description, renderBatch, renderBatches, render, batchWithinLimits, withinLimits, placed, bookSaid}
 use Rattle.theory.proofs.Logic.{and-left, and-right, and-mk, not-mk, or-cases, or-none}
 use Rattle.theory.proofs.Member.{mem-append, every-mem}
 use Rattle.theory.proofs.Field.{columns-length, field-columns, field-blanks}
@@ -30,6 +30,21 @@ column-read x s h =
 pub number-read : (x : ℕ) (xs r : List ℕ) → x < 10 ^ 6 → numberAt (fields (x ∷ xs) ++ r) ≡ gives x (fields xs ++ r)
 unfolding fields
 number-read x xs r h = ap numberAt (append-assoc (columns 6 x) (fields xs) r) ∙ column-read x (fields xs ++ r) h
+
+-- a mark says whether a batch has started, and is 0 or 1
+pub mark-test : (s : Bool) → eqb (mark s) 1 ≡ s
+mark-test true = refl
+mark-test false = refl
+
+pub mark-said : (v : ℕ) → v ≤ 1 → mark (eqb v 1) ≡ v
+mark-said zero h = refl
+mark-said (suc v) h = let e : v ≡ 0 = omega arith in rw e
+
+-- a mark before further fields
+mark-read : (s : Bool) (xs r : List ℕ) → markAt (fields (mark s ∷ xs) ++ r) ≡ gives s (fields xs ++ r)
+unfolding markAt
+mark-read true xs r = rw (number-read 1 xs r (omega arith))
+mark-read false xs r = rw (number-read 0 xs r (omega arith))
 
 -- a place before the rest of the file
 place-read : (p : Given) (s : List ℕ) → givenNumber p < 10 ^ 6 → placeAt (givenColumns p ++ s) ≡ gives (givenNumber p) s
@@ -78,7 +93,7 @@ line-rest xs r = append-assoc (fields xs) (10 ∷ []) r
 pub record BatchWithinLimits (m : ℕ) (b : Described) : Type 0 where
   pub minutes : goodMinutes (b .minutes) ≡ true
   pub list : goodList m (b .list) ≡ true
-  pub place : eqb (givenNumber (b .place)) 0 or mem (givenNumber (b .place)) (b .list) ≡ true
+  pub place : goodPlace (b .started) (givenNumber (b .place)) (b .list) ≡ true
 
 pub batch-within-is : (m : ℕ) (b : Described) → batchWithinLimits m b ≡ true → BatchWithinLimits m b
 unfolding batchWithinLimits
@@ -107,10 +122,11 @@ minutes-small : (t : ℕ) → goodMinutes t ≡ true → t < 10 ^ 6
 unfolding goodMinutes
 minutes-small t e = let u : t ≤ 1440 = leb-true t 1440 (and-right (leb 1 t) _ e) in omega arith
 
-place-small : (m p : ℕ) (l : List ℕ) → m ≤ 24 → every (isInstrument m) l ≡ true → eqb p 0 or mem p l ≡ true → p < 10 ^ 6
-place-small m p l h g e =
-    or-cases (eqb p 0) (mem p l) e
-    (λ t. omega (arith, eqb-true p 0 t))
+place-small : (m : ℕ) (s : Bool) (p : ℕ) (l : List ℕ) → m ≤ 24 → every (isInstrument m) l ≡ true → goodPlace s p l ≡ true → p < 10 ^ 6
+unfolding goodPlace
+place-small m s p l h g e =
+    or-cases (not s and eqb p 0) (mem p l) e
+    (λ t. omega (arith, eqb-true p 0 (and-right (not s) _ t)))
     (λ t. instrument-small m p h (every-mem (isInstrument m) l p g t))
 
 count-small : (m c : ℕ) → m ≤ 24 → leb 1 c and leb c m ≡ true → c < 10 ^ 6
@@ -118,7 +134,7 @@ count-small m c h e = let u : c ≤ m = leb-true c m (and-right (leb 1 c) _ e) i
 
 -- a batch line before the rest of the file
 pub batch-rest : (b : Described) (r : List ℕ) → renderBatch b ++ r
-    ≡ columns 6 (b .minutes) ++ (givenColumns (b .place) ++ (fields (length (b .list) ∷ b .list) ++ (10 ∷ r)))
+    ≡ columns 6 (b .minutes) ++ (givenColumns (b .place) ++ (fields (mark (b .started) ∷ length (b .list) ∷ b .list) ++ (10 ∷ r)))
 batch-rest b r = simp append-assoc
 
 pub batch-read : (m : ℕ) (b : Described) (r : List ℕ) → m ≤ 24 → batchWithinLimits m b ≡ true
@@ -127,11 +143,13 @@ unfolding batchLine endOfLine
 batch-read m b r h e =
     let f = batch-within-is m b e in
     let g = good-list-is m (b .list) (f .list) in
+    let u = fields (mark (b .started) ∷ length (b .list) ∷ b .list) ++ (10 ∷ r) in
     rw (
       batch-rest b r,
-      column-read (b .minutes) (givenColumns (b .place) ++ (fields (length (b .list) ∷ b .list) ++ (10 ∷ r))) (minutes-small _ (f .minutes)),
+      column-read (b .minutes) (givenColumns (b .place) ++ u) (minutes-small _ (f .minutes)),
       f .minutes,
-      place-read (b .place) (fields (length (b .list) ∷ b .list) ++ (10 ∷ r)) (place-small m _ (b .list) h (g .ranged) (f .place)),
+      place-read (b .place) u (place-small m (b .started) _ (b .list) h (g .ranged) (f .place)),
+      mark-read (b .started) (length (b .list) ∷ b .list) (10 ∷ r),
       number-read (length (b .list)) (b .list) (10 ∷ r) (count-small m _ h (g .count)),
       g .count,
       instruments-read m (b .list) [] (10 ∷ r) h (g .ranged) (g .apart),

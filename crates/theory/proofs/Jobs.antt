@@ -1,8 +1,8 @@
 -- The jobs of a sound book: its instance is valid, its places are permitted, every permitted assignment can be entered in it, and has each
--- calibration where it stands.
+-- calibration and each started batch where it stands.
 use Prim.Native.Nat.{ℕ, zero, suc, _+_, _-_, _≤_, _<_}
 use mathlib.Core.Path.{_≡_, refl, sym, ap, ap₂, _∙_, subst, subst₂}
-use mathlib.Core.Bool.{true}
+use mathlib.Core.Bool.{true, false}
 use mathlib.Core.List.{List, [], _∷_, _++_, map, map-append}
 use native.Mathlib.Nat.{le-refl}
 use native.Mathlib.Omega.{arith}
@@ -12,9 +12,9 @@ use lib.Seq.{take-all, getD-drop, getD-append-add}
 use lib.Dec.{leb}
 use borrow.Author.Tests.{leb-true, leb-false}
 use Rattle.rules.specs.Fold.{_or_, at, put, mem, every, anyTo}
-use Rattle.rules.specs.Sheet.{Batch, Book, size, batch, noBatchHere, goodInstruments, goodBatch, sound}
+use Rattle.rules.specs.Sheet.{Batch, Book, withPlace, size, batch, noBatchHere, goodInstruments, goodBatch, sound}
 use Rattle.rules.specs.Edit.{withBatches}
-use Rattle.rules.specs.Instance.{Assignment, Job, noJob, n, jobOf, calibrationsTo, items, busy, instance, places, minutesOf, eligible}
+use Rattle.rules.specs.Instance.{Assignment, Job, noJob, n, qualified, jobOf, calibrationsTo, items, busy, instance, places, minutesOf, eligible}
 use Rattle.rules.specs.Run.{placeAll, withPlaces}
 use Rattle.theory.proofs.Logic.{byTest, and-left, and-right, and-mk, or-none, or-cases}
 use Rattle.theory.proofs.Member.{every-append}
@@ -23,7 +23,8 @@ use Rattle.theory.proofs.Valid.{Valid, Permitted, eligible-job}
 use Rattle.theory.proofs.Fold.{at-put-same}
 use Rattle.theory.proofs.Review.{Improves}
 use Rattle.theory.proofs.Move.{put-permitted}
-use Rattle.theory.proofs.Items.{fixed-places, calibrations-fixed, calibrations-few, calibrations-some, calibrations-none, calibrations-good}
+use Rattle.theory.proofs.Items.{started-qualified, qualified-listed, listed-qualified, place-qualified, job-kept, Fits, fixed-places, calibrations-fixed, calibrations-few, calibrations-some, calibrations-none, calibrations-good}
+use Rattle.theory.proofs.Claims.{homes, LeavesPut}
 use Rattle.theory.proofs.Sound.{Good, good-is, is-good, SoundBook, sound-is, is-sound, good-ranged, minutes-some, good-at}
 
 -- ---- what takes time: the batches and the calibrations above 0
@@ -92,7 +93,9 @@ sound-valid k v = record { minutes = lasting; ranged = named }
     named zero i e = absurd (omega (arith, eligible-job (instance k) 0 i e .0))
     named (suc b) i e =
         let h : b < length (items k) = omega (arith, jobs-count k, eligible-job (instance k) (suc b) i e .1) in
-        good-ranged (k .m) _ i (good b h .list) (subst (λ (j : Job). mem i (j .list) ≡ true) (job-at (items k) b) e)
+        let g = good b h in
+        good-ranged (k .m) _ i (g .list)
+        (qualified-listed (getD (items k) b noBatchHere) i (g .place) (subst (λ (j : Job). mem i (j .list) ≡ true) (job-at (items k) b) e))
 
 pub sound-permitted : (k : Book) → sound k ≡ true → Permitted (instance k) (places k)
 sound-permitted k v = record { size = length-map (items k) _ ∙ sym (jobs-count k); listed = listed }
@@ -101,21 +104,22 @@ sound-permitted k v = record { size = length-map (items k) _ ∙ sym (jobs-count
     listed zero p q = absurd (omega arith)
     listed (suc b) p q =
         subst₂ (λ (j : Job) (p : ℕ). mem p (j .list) ≡ true) (sym (job-at (items k) b)) (sym (place-at (items k) b))
-        (good-at (k .m) (items k) b (items-good k (sound-is k v)) (omega (arith, jobs-count k)) .place)
+        (place-qualified (getD (items k) b noBatchHere) (good-at (k .m) (items k) b (items-good k (sound-is k v)) (omega (arith, jobs-count k)) .place))
 
 -- ---- other places
 
-pub placed-jobs : (bs : List Batch) (x : Assignment) → map jobOf (placeAll bs x) ≡ map jobOf bs
-placed-jobs [] x = refl
-placed-jobs (b ∷ bs) [] = refl
-placed-jobs (b ∷ bs) (p ∷ x) = ap (λ (r : List Job). jobOf b ∷ r) (placed-jobs bs x)
+placed-jobs : (bs : List Batch) (x : Assignment) → Fits bs x → map jobOf (placeAll bs x) ≡ map jobOf bs
+placed-jobs [] x h = refl
+placed-jobs (b ∷ bs) [] h = refl
+placed-jobs (b ∷ bs) (p ∷ x) h =
+    ap₂ (λ (j : Job) (r : List Job). j ∷ r) (job-kept b p (h 0 (omega arith))) (placed-jobs bs x (λ c l. h (suc c) (omega arith)))
 
-pub placed-instance : (k : Book) (x : Assignment) → instance (withPlaces k x) ≡ instance k
-placed-instance k x =
+pub placed-instance : (k : Book) (x : Assignment) → Fits (k .batches) x → instance (withPlaces k x) ≡ instance k
+placed-instance k x h =
     let cs = calibrationsTo (k .calibrations) (k .m) in
     ap (λ (r : List Job). record { m = k .m; jobs = r })
     (map-append jobOf (placeAll (k .batches) x) cs
-    ∙ ap (λ (r : List Job). r ++ map jobOf cs) (placed-jobs (k .batches) x)
+    ∙ ap (λ (r : List Job). r ++ map jobOf cs) (placed-jobs (k .batches) x h)
     ∙ sym (map-append jobOf (k .batches) cs))
 
 pub placed-at : (bs : List Batch) (x : Assignment) → length bs ≤ length x → map (λ (b : Batch). b .place) (placeAll bs x) ≡ take (length bs) x
@@ -123,17 +127,13 @@ placed-at [] x h = refl
 placed-at (b ∷ bs) [] h = absurd (omega arith)
 placed-at (b ∷ bs) (p ∷ x) h = ap (λ (r : List ℕ). p ∷ r) (placed-at bs x (omega arith))
 
--- where the calibrations stand, each on its instrument
-abbrev pub homes : Book → Assignment
-homes k = map (λ (b : Batch). b .place) (calibrationsTo (k .calibrations) (k .m))
-
--- and where every permitted assignment has them
+-- every permitted assignment has the calibrations where they stand
 pub calibrations-stay : (k : Book) (x : Assignment) → Permitted (instance k) x → drop (size k) x ≡ homes k
 calibrations-stay k x w =
     let cs = calibrationsTo (k .calibrations) (k .m) in
     fixed-places (drop (size k) x) (calibrations-fixed (k .calibrations) (k .m))
     (omega (arith, length-drop (size k) x, w .size, jobs-count k, items-length k))
-    (λ b h. subst₂ (λ (p : ℕ) (j : Batch). mem p (j .list) ≡ true) (sym (getD-drop (size k) x b 0)) (getD-append-add (k .batches) cs b noBatchHere)
+    (λ b h. subst₂ (λ (p : ℕ) (j : Batch). mem p (qualified j) ≡ true) (sym (getD-drop (size k) x b 0)) (getD-append-add (k .batches) cs b noBatchHere)
     (subst (λ (j : Job). mem (getD x (size k + b) 0) (j .list) ≡ true) (job-at (items k) (size k + b))
     (w .listed (suc (size k + b)) (omega arith) (omega (arith, jobs-count k, items-length k)))))
 
@@ -172,7 +172,7 @@ all-again [] x y h = refl
 all-again (b ∷ bs) [] y h = refl
 all-again (b ∷ bs) (p ∷ x) [] h = absurd (omega arith)
 all-again (b ∷ bs) (p ∷ x) (q ∷ y) h =
-    ap (λ (r : List Batch). record { minutes = b .minutes; list = b .list; place = q } ∷ r) (all-again bs x y (omega arith))
+    ap (λ (r : List Batch). withPlace b q ∷ r) (all-again bs x y (omega arith))
 
 pub placed-again : (k : Book) (x y : Assignment) → size k ≤ length y → withPlaces (withPlaces k x) y ≡ withPlaces k y
 placed-again k x y h = ap (withBatches k) (all-again (k .batches) x y h)
@@ -185,22 +185,20 @@ placed-length (b ∷ bs) (p ∷ x) = ap suc (placed-length bs x)
 pub placed-size : (k : Book) (x : Assignment) → size (withPlaces k x) ≡ size k
 placed-size k x = placed-length (k .batches) x
 
-placed-good : (m : ℕ) (bs : List Batch) (x : Assignment) → every (goodBatch m) bs ≡ true
-    → ((b : ℕ) → b < length bs → mem (getD x b 0) (getD bs b noBatchHere .list) ≡ true)
+placed-good : (m : ℕ) (bs : List Batch) (x : Assignment) → every (goodBatch m) bs ≡ true → Fits bs x
     → every (goodBatch m) (placeAll bs x) ≡ true
 unfolding every
 placed-good m [] x e h = e
 placed-good m (b ∷ bs) [] e h = e
 placed-good m (b ∷ bs) (p ∷ x) e h =
     let g = good-is m b (and-left _ _ e) in
-    and-mk _ _ (is-good m _ (record { minutes = g .minutes; list = g .list; place = h 0 (omega arith) }))
+    and-mk _ _ (is-good m _ (record { minutes = g .minutes; list = g .list; place = qualified-listed b p (g .place) (h 0 (omega arith)) }))
     (placed-good m bs x (and-right (goodBatch m b) _ e) (λ c l. h (suc c) (omega arith)))
 
--- a permitted assignment has each batch on an instrument of its list
-pub batch-listed : (k : Book) (x : Assignment) → Permitted (instance k) x → (b : ℕ) → b < size k
-    → mem (getD x b 0) (getD (k .batches) b noBatchHere .list) ≡ true
-batch-listed k x w b h =
-    subst (λ (c : Batch). mem (getD x b 0) (c .list) ≡ true) (List·getD-append (k .batches) (calibrationsTo (k .calibrations) (k .m)) noBatchHere b h)
+-- a permitted assignment has each batch where it counts as qualified
+pub batches-fit : (k : Book) (x : Assignment) → Permitted (instance k) x → Fits (k .batches) x
+batches-fit k x w b h =
+    subst (λ (c : Batch). mem (getD x b 0) (qualified c) ≡ true) (List·getD-append (k .batches) (calibrationsTo (k .calibrations) (k .m)) noBatchHere b h)
     (subst (λ (j : Job). mem (getD x b 0) (j .list) ≡ true) (job-at (items k) b)
     (w .listed (suc b) (omega arith) (omega (arith, batches-first k))))
 
@@ -208,14 +206,13 @@ batch-listed k x w b h =
 placed-front : (bs : List Batch) (x : Assignment) → placeAll bs (take (length bs) x) ≡ placeAll bs x
 placed-front [] x = refl
 placed-front (b ∷ bs) [] = refl
-placed-front (b ∷ bs) (p ∷ x) = ap (λ (r : List Batch). record { minutes = b .minutes; list = b .list; place = p } ∷ r) (placed-front bs x)
+placed-front (b ∷ bs) (p ∷ x) = ap (λ (r : List Batch). withPlace b p ∷ r) (placed-front bs x)
 
 pub front-placed : (k : Book) (x : Assignment) → withPlaces k (take (size k) x) ≡ withPlaces k x
 front-placed k x = ap (withBatches k) (placed-front (k .batches) x)
 
-pub listed-sound : (k : Book) (x : Assignment) → sound k ≡ true
-    → ((b : ℕ) → b < size k → mem (getD x b 0) (getD (k .batches) b noBatchHere .list) ≡ true) → sound (withPlaces k x) ≡ true
-listed-sound k x v w =
+pub fit-sound : (k : Book) (x : Assignment) → sound k ≡ true → Fits (k .batches) x → sound (withPlaces k x) ≡ true
+fit-sound k x v w =
     let s = sound-is k v in
     is-sound (withPlaces k x) (record {
       instruments = s .instruments;
@@ -225,13 +222,39 @@ listed-sound k x v w =
     })
 
 pub placed-sound : (k : Book) (x : Assignment) → sound k ≡ true → Permitted (instance k) x → sound (withPlaces k x) ≡ true
-placed-sound k x v w = listed-sound k x v (batch-listed k x w)
+placed-sound k x v w = fit-sound k x v (batches-fit k x w)
 
 -- each plan of the batches, with the calibrations where they stand, is a permitted assignment
-pub homes-permitted : (k : Book) (x : Assignment) → sound k ≡ true → length x ≡ size k
-    → ((b : ℕ) → b < size k → mem (getD x b 0) (getD (k .batches) b noBatchHere .list) ≡ true) → Permitted (instance k) (x ++ homes k)
-homes-permitted k x v e w =
+homes-fit : (k : Book) (x : Assignment) → sound k ≡ true → length x ≡ size k → Fits (k .batches) x → Permitted (instance k) (x ++ homes k)
+homes-fit k x v e w =
     let p : places (withPlaces k x) ≡ x ++ homes k =
     map-append _ (placeAll (k .batches) x) (calibrationsTo (k .calibrations) (k .m))
     ∙ ap (λ (a : List ℕ). a ++ homes k) (placed-at (k .batches) x (omega arith) ∙ take-all (length (k .batches)) x (omega arith)) in
-    subst₂ Permitted (placed-instance k x) p (sound-permitted (withPlaces k x) (listed-sound k x v w))
+    subst₂ Permitted (placed-instance k x w) p (sound-permitted (withPlaces k x) (fit-sound k x v w))
+
+-- ---- plans that leave started batches put
+
+pub permitted-leaves : (k : Book) (x : Assignment) → sound k ≡ true → Permitted (instance k) x → LeavesPut k x
+permitted-leaves k x v w = record {
+  listed = λ b h. qualified-listed (batch k (suc b)) _ (good-at (k .m) (k .batches) b (sound-is k v .batches) h .place) (batches-fit k x w b h);
+  put = λ b h t. started-qualified (batch k (suc b)) _ t (batches-fit k x w b h);
+}
+
+-- with the calibrations where they stand, each such plan is a permitted assignment
+pub leaves-permitted : (k : Book) (x : Assignment) → sound k ≡ true → length x ≡ size k → LeavesPut k x → Permitted (instance k) (x ++ homes k)
+leaves-permitted k x v e p = homes-fit k x v e (λ b h. listed-qualified (batch k (suc b)) _ (p .listed b h) (p .put b h))
+
+-- so no started batch improves
+pub improves-waits : (k : Book) (x : Assignment) → sound k ≡ true → Permitted (instance k) x → (b : ℕ) → Improves (instance k) x b
+    → batch k b .started ≡ false
+improves-waits k x e w zero r = refl
+improves-waits k x e w (suc b) r =
+    let c = eligible-job (instance k) (suc b) (r .machine) (r .better .listed) in
+    let h : b < size k = omega (arith, improves-batch k x w (suc b) r) in
+    let v = put-permitted (suc b) (r .machine) w (r .better .listed) in
+    byTest (batch k (suc b) .started)
+    (λ t. absurd (r .better .other
+    (sym (at-put-same x (suc b) (r .machine) (c .0) (omega (arith, w .size, c .1)))
+    ∙ permitted-leaves k (put x (suc b) (r .machine)) e v .put b h t
+    ∙ sym (permitted-leaves k x e w .put b h t))))
+    (λ t. t)

@@ -39,7 +39,9 @@ pub mod Fields
 pub mod Format
 pub mod Parse
 pub mod Sound
+pub mod Claims
 pub mod Jobs
+pub mod Started
 pub mod Limits
 pub mod Rewrite
 pub mod Planning

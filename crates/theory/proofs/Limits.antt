@@ -12,6 +12,7 @@ use Rattle.rules.specs.Instance.{Job, noJob, n, jobOf, items, instance, minutes
 use Rattle.theory.proofs.Logic.{byTest, and-left, and-right}
 use Rattle.theory.proofs.Fold.{sumTo-bound}
 use Rattle.theory.proofs.Small.{Small}
+use Rattle.theory.proofs.Items.{qualified-few}
 use Rattle.theory.proofs.Sound.{Good, good-at, sound-is}
 use Rattle.theory.proofs.Jobs.{items-good, items-few, jobs-count}
 
@@ -45,7 +46,11 @@ module _ (k : Book) (v : sound k ≡ true) where
   listed : (b : ℕ) → 0 < b → b ≤ n (instance k) → length (listOf (instance k) b) ≤ 24
   listed zero p q = absurd (omega arith)
   listed (suc b) p q =
-      omega (arith, good-long (k .m) _ (good b q .list), few-instruments, ap (λ (j : Job). length (j .list)) (job-of b))
+      omega (
+        arith,
+        qualified-few (getD (items k) b noBatchHere) 24 (omega arith) (omega (arith, good-long (k .m) _ (good b q .list), few-instruments)),
+        ap (λ (j : Job). length (j .list)) (job-of b),
+      )
 
   pub sound-small : Small (instance k)
   sound-small =

@@ -6,17 +6,17 @@ use mathlib.Core.List.{List, [], _∷_, _++_, map, append-nil, append-assoc}
 use native.Mathlib.Omega.{arith}
 use lib.ListN.{length, drop}
 use lib.Dec.{leb, eqb}
-use borrow.Author.Tests.{eqb-true, eqb-false, eq-eqb, ne-eqb, not-true}
-use Rattle.rules.specs.Fold.{_and_, _or_, mem, every}
+use borrow.Author.Tests.{leb-true, eqb-true, eqb-false, eq-eqb, ne-eqb, not-true}
+use Rattle.rules.specs.Fold.{_and_, mem, every}
 use Rattle.rules.specs.Refusal.{Refusal}
 use Rattle.rules.specs.Sheet.{Book, Batch, maxBatches, goodInstruments, goodMinutes, goodCalibration, goodCalibrations, isInstrument, distinct, goodList}
 use Rattle.rules.specs.Field.{Field, value, blank, fault, field}
-use Rattle.rules.specs.Read.{Part, gives, refuses, andThen, orRefuse, fieldPart, numberAt, blankZero, placeAt, endOfLine, Head, headLine, calibrationsAt, calibrationLine, instrumentsAt, batchLine, Reading, accepted, refusedAt, onLine, batchLines, linesAfter, read}
-use Rattle.rules.specs.Render.{columns, fields, line, Given, numbered, leftBlank, givenNumber, givenColumns, Described, Description, renderBatch, renderBatches, render, batchWithinLimits, withinLimits, placed, bookSaid}
+use Rattle.rules.specs.Read.{Part, gives, refuses, andThen, orRefuse, fieldPart, numberAt, blankZero, placeAt, endOfLine, Head, headLine, calibrationsAt, calibrationLine, markAt, instrumentsAt, goodPlace, batchLine, Reading, accepted, refusedAt, onLine, batchLines, linesAfter, read}
+use Rattle.rules.specs.Render.{columns, fields, line, Given, numbered, leftBlank, givenNumber, givenColumns, mark, Described, Description, renderBatch, renderBatches, render, batchWithinLimits, withinLimits, placed, bookSaid}
 use Rattle.theory.proofs.Logic.{and-left, and-right, and-mk, not-mk, or-none, or-skip}
 use Rattle.theory.proofs.Member.{mem-append}
 use Rattle.theory.proofs.Field.{field-value, field-blank}
-use Rattle.theory.proofs.Format.{line-rest, batch-rest}
+use Rattle.theory.proofs.Format.{mark-said, line-rest, batch-rest}
 
 -- ---- a part that gives, and what the rest of a proof is told of it
 
@@ -66,6 +66,14 @@ number-gives r v s e = from (field r) refl e
         field-value r w q .1 ∙ ap₂ (λ (x : ℕ) (u : List ℕ). columns 6 x ++ u) a b
     from blank q h = no-part h
     from fault q h = no-part h
+
+-- a mark that is read is written by its number
+mark-gives : (r : List ℕ) (s : Bool) (u : List ℕ) → markAt r ≡ gives s u → numberAt r ≡ gives (mark s) u
+unfolding markAt
+mark-gives r s u e =
+    then-gives (numberAt r) _ e (λ v r₁ e₁ h₁.
+    or-gives (leb v 1) _ _ h₁ (λ o h₂.
+    gave h₂ (λ p q. e₁ ∙ ap₂ (λ (w : ℕ) (z : List ℕ). gives w z) (sym (mark-said v (leb-true v 1 o)) ∙ ap mark p) q)))
 
 -- a place: its columns are those of a number, or blank
 place-gives : {Y C : Type 0} {y : Y} {s : List ℕ} (r : List ℕ) (next : ℕ → List ℕ → Part Y) → andThen (placeAt r) next ≡ gives y s
@@ -163,24 +171,26 @@ batch-wrote m r b s e =
     then-gives (numberAt r) _ e (λ t r₁ e₁ h₁.
     or-gives (goodMinutes t) _ _ h₁ (λ o₁ h₂.
     place-gives r₁ _ h₂ (λ p r₂ e₂ h₃.
-    then-gives (numberAt r₂) _ h₃ (λ c r₃ e₃ h₄.
-    or-gives (leb 1 c and leb c m) _ _ h₄ (λ o₂ h₅.
-    then-gives (instrumentsAt m c [] r₃) _ h₅ (λ l r₄ e₄ h₆.
-    end-gives r₄ _ h₆ (λ r₅ e₅ h₇.
-    or-gives (eqb (givenNumber p) 0 or mem (givenNumber p) l) _ _ h₇ (λ o₃ h₈.
-    gave h₈ (λ same z.
-    let g = counted m c r₂ r₃ l r₄ e₃ o₂ e₄ in
-    let w : 10 ∷ s ≡ r₄ = ap (λ (u : List ℕ). 10 ∷ u) (sym z) ∙ sym e₅ in
+    then-gives (markAt r₂) _ h₃ (λ a r₃ e₃ h₄.
+    then-gives (numberAt r₃) _ h₄ (λ c r₄ e₄ h₅.
+    or-gives (leb 1 c and leb c m) _ _ h₅ (λ o₂ h₆.
+    then-gives (instrumentsAt m c [] r₄) _ h₆ (λ l r₅ e₅ h₇.
+    end-gives r₅ _ h₇ (λ r₆ e₆ h₈.
+    or-gives (goodPlace a (givenNumber p) l) _ _ h₈ (λ o₃ h₉.
+    gave h₉ (λ same z.
+    let g = counted m c r₃ r₄ l r₅ e₄ o₂ e₅ in
+    let w : 10 ∷ s ≡ r₅ = ap (λ (u : List ℕ). 10 ∷ u) (sym z) ∙ sym e₆ in
+    let x : fields (length l ∷ l) ++ (10 ∷ s) ≡ r₃ = ap (λ (u : List ℕ). fields (length l ∷ l) ++ u) w ∙ g .1 in
+    let y = number-wrote r₂ (mark a) r₃ (length l ∷ l) (10 ∷ s) (mark-gives r₂ a r₃ e₃) x in
     record {
-      d = record { minutes = t; list = l; place = p };
+      d = record { minutes = t; list = l; place = p; started = a };
       fit = and-mk _ _ o₁ (and-mk _ _ (g .0) o₃);
       same = same;
       wrote =
-          batch-rest (record { minutes = t; list = l; place = p }) s
-          ∙ ap (λ (u : List ℕ). columns 6 t ++ u)
-          (ap (λ (u : List ℕ). givenColumns p ++ u) (ap (λ (u : List ℕ). fields (length l ∷ l) ++ u) w ∙ g .1) ∙ e₂)
+          batch-rest (record { minutes = t; list = l; place = p; started = a }) s
+          ∙ ap (λ (u : List ℕ). columns 6 t ++ u) (ap (λ (u : List ℕ). givenColumns p ++ u) y ∙ e₂)
           ∙ sym (number-gives r t r₁ e₁);
-    })))))))))
+    }))))))))))
 
 -- ---- the batch lines
 

@@ -9,9 +9,9 @@ use lib.ListN.{length, replicate, length-append, length-map}
 use lib.Dec.{leb, eqb}
 use borrow.Author.Tests.{leb-true, le-leb, eq-eqb, ne-eqb}
 use Rattle.rules.specs.Fold.{_and_, _or_, every}
-use Rattle.rules.specs.Sheet.{Book, Batch, maxBatches, goodInstruments, goodBatch, sound}
-use Rattle.rules.specs.Read.{accepted, placeOr, read}
-use Rattle.rules.specs.Render.{columns, line, Given, numbered, leftBlank, givenNumber, givenColumns, Described, Description, renderBatch, renderBatches, render, batchWithinLimits, withinLimits, placed, bookSaid, describedBatch, described}
+use Rattle.rules.specs.Sheet.{Book, Batch, withPlace, maxBatches, goodInstruments, goodBatch, sound}
+use Rattle.rules.specs.Read.{accepted, placeOr, goodPlace, read}
+use Rattle.rules.specs.Render.{columns, line, Given, numbered, leftBlank, givenNumber, givenColumns, mark, Described, Description, renderBatch, renderBatches, render, batchWithinLimits, withinLimits, placed, bookSaid, describedBatch, described}
 use Rattle.rules.specs.Rewrite.{written, isOpen, unmarked, openInBatch, openInBatches, openColumns, alike}
 use Rattle.theory.proofs.Logic.{conflict, not-mk, and-left, and-right, and-mk, or-right}
 use Rattle.theory.proofs.Field.{columns-length}
@@ -31,14 +31,14 @@ module _ (m : ℕ) where
   batch-same : (b : Batch) → goodBatch m b ≡ true → placed (describedBatch b) ≡ b
   batch-same b e =
       let g = good-is m b e in
-      ap (λ (p : ℕ). record { minutes = b .minutes; list = b .list; place = p })
+      ap (withPlace b)
       (place-kept (b .place) (b .list) (good-ranged m (b .list) (b .place) (g .list) (g .place) .0))
 
   batch-within : (b : Batch) → goodBatch m b ≡ true → batchWithinLimits m (describedBatch b) ≡ true
-  unfolding batchWithinLimits
+  unfolding batchWithinLimits goodPlace
   batch-within b e =
       let g = good-is m b e in
-      and-mk _ _ (g .minutes) (and-mk _ _ (g .list) (or-right (eqb (b .place) 0) _ (g .place)))
+      and-mk _ _ (g .minutes) (and-mk _ _ (g .list) (or-right (not (b .started) and eqb (b .place) 0) _ (g .place)))
 
   batches-same : (bs : List Batch) → every (goodBatch m) bs ≡ true → map placed (map describedBatch bs) ≡ bs
   unfolding every
@@ -129,7 +129,7 @@ batch-alike b =
     let t = columns 6 (b .minutes) in
     let g = givenColumns (b .place) in
     let p = columns 6 (placed b .place) in
-    let l = line (length (b .list) ∷ b .list) in
+    let l = line (mark (b .started) ∷ length (b .list) ∷ b .list) in
     alike-append (replicate 6 false) t t (replicate 6 (isOpen (b .place)) ++ unmarked l) (g ++ l) (p ++ l)
     (alike-same 6 t (columns-length 6 (b .minutes)))
     (alike-append (replicate 6 (isOpen (b .place))) g p (unmarked l) l l (place-alike (b .place) (b .list)) (alike-same (length l) l refl))
@@ -183,24 +183,24 @@ rewritten s k e =
 
 -- ---- how long a file is
 
-pub batch-length : (b : Described) → length (renderBatch b) ≡ 6 * length (b .list) + 19
+pub batch-length : (b : Described) → length (renderBatch b) ≡ 6 * length (b .list) + 25
 batch-length b =
     let p = givenColumns (b .place) in
-    let l = line (length (b .list) ∷ b .list) in
+    let l = line (mark (b .started) ∷ length (b .list) ∷ b .list) in
     omega (
       arith,
       length-append (columns 6 (b .minutes)) (p ++ l),
       columns-length 6 (b .minutes),
       length-append p l,
       given-length (b .place),
-      line-length (length (b .list) ∷ b .list),
+      line-length (mark (b .started) ∷ length (b .list) ∷ b .list),
     )
   where
     given-length : (p : Given) → length (givenColumns p) ≡ 6
     given-length (numbered v) = columns-length 6 v
     given-length leftBlank = refl
 
-batches-few : (m : ℕ) (bs : List Described) → m ≤ 24 → every (batchWithinLimits m) bs ≡ true → length (renderBatches bs) ≤ 163 * length bs
+batches-few : (m : ℕ) (bs : List Described) → m ≤ 24 → every (batchWithinLimits m) bs ≡ true → length (renderBatches bs) ≤ 169 * length bs
 unfolding renderBatches every
 batches-few m [] h e = omega arith
 batches-few m (b ∷ bs) h e =
@@ -213,8 +213,8 @@ batches-few m (b ∷ bs) h e =
       batches-few m bs h (and-right (batchWithinLimits m b) _ e),
     )
 
--- line 1 has 13 bytes, line 2 at most 145, and a batch line at most 163
-file-few : (d : Description) → withinLimits d ≡ true → length (render d) ≤ 32758
+-- line 1 has 13 bytes, line 2 at most 145, and a batch line at most 169
+file-few : (d : Description) → withinLimits d ≡ true → length (render d) ≤ 33958
 unfolding render goodInstruments
 file-few d e =
     let w = within-is d e in
@@ -233,9 +233,9 @@ file-few d e =
     )
 
 -- no file that is accepted is longer, and none that is written
-pub most-bytes : (s : List ℕ) (k : Book) → read s ≡ accepted k → length s ≤ 32758
+pub most-bytes : (s : List ℕ) (k : Book) → read s ≡ accepted k → length s ≤ 33958
 most-bytes s k e = let w = rewritten s k e in omega (arith, ap length (w .file), file-few (w .says) (w .within))
 
-pub most-written : (k : Book) → sound k ≡ true → length (written k) ≤ 32758
+pub most-written : (k : Book) → sound k ≡ true → length (written k) ≤ 33958
 unfolding written
 most-written k e = file-few (described k) (described-within k e)

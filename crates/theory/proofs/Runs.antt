@@ -1,144 +1,38 @@
 -- Lists of calls on the book (document 01, "Runs"): the book stays sound along every list, and each trial, each balance and each settle
 -- in it keeps what the documents claim of it.
-use Prim.Native.Nat.{ℕ, zero, suc, _+_, _*_, _≤_, _<_}
+use Prim.Native.Nat.{ℕ, zero, suc, _+_, _≤_, _<_}
 use mathlib.Core.Path.{_≡_, refl, sym, ap, ap₂, _∙_, subst}
 use mathlib.Core.Bool.{Bool, true, false}
 use mathlib.Core.List.{List, [], _∷_, _++_}
 use native.Mathlib.Nat.{le-trans}
 use native.Mathlib.Omega.{arith}
-use lib.ListN.{length, getD, take, drop, take-append-drop}
+use lib.ListN.{take, take-append-drop}
 use borrow.Author.Tests.{le-leb, lt-leb}
-use Rattle.rules.specs.Fold.{pick, mem}
-use Rattle.rules.specs.Refusal.{bufferShort}
-use Rattle.rules.specs.Sheet.{Book, size, noBatchHere, sound}
+use Rattle.rules.specs.Fold.{pick}
+use Rattle.rules.specs.Sheet.{Book, Batch, size, batch, sound}
 use Rattle.rules.specs.Read.{read, accepted}
-use Rattle.rules.specs.Rewrite.{written}
 use Rattle.rules.specs.Edit.{Edit, Edited, refused, edited, edit}
-use Rattle.rules.specs.Instance.{Instance, Assignment, busy, instance, places, n}
-use Rattle.rules.specs.Load.{longest, makespan, equilibrium, review}
-use Rattle.rules.specs.Trial.{atLevel, ended, liftBound, pushBound}
-use Rattle.rules.specs.Group.{Tried, passed, failed, trial}
-use Rattle.rules.specs.Settle.{squares}
-use Rattle.rules.specs.LowerBound.{witnessed}
+use Rattle.rules.specs.Instance.{Instance, Assignment, busy, instance, places}
+use Rattle.rules.specs.Load.{longest, makespan, review}
+use Rattle.rules.specs.Trial.{atLevel, ended}
+use Rattle.rules.specs.Group.{Tried, passed}
 use Rattle.rules.specs.Round.{multiples, equalLengths, closeTo}
-use Rattle.rules.specs.Moves.{Move, follow}
+use Rattle.rules.specs.Moves.{follow}
 use Rattle.rules.specs.Plan.{rested, plan}
-use Rattle.rules.specs.Run.{Call, editing, reviewing, trying, balancing, settling, Answer, balanced, settled, answer, next, bookAfter, editBook, balanceBook, settleBook, roomy, recordsTo, withPlaces}
-use Rattle.rules.specs.Run as R
-use Rattle.rules.specs.Listing.{planBook}
+use Rattle.rules.specs.Run.{Call, editing, reviewing, trying, balancing, settling, balanced, settled, answer, next, bookAfter, editBook, balanceBook, settleBook, roomy, recordsTo, withPlaces}
 use Rattle.theory.proofs.Valid.{Valid, Permitted}
 use Rattle.theory.proofs.Sound.{read-sound, edit-sound}
-use Rattle.theory.proofs.Jobs.{sound-valid, sound-permitted, placed-sound, placed-places, placed-instance, placed-again, placed-size, places-past, batches-first, busy-some, some-busy, improves-batch, batch-listed, homes, calibrations-stay, homes-permitted}
+use Rattle.theory.proofs.Jobs.{sound-valid, sound-permitted, placed-sound, placed-places, placed-instance, placed-again, placed-size, places-past, batches-first, busy-some, some-busy, improves-batch, improves-waits, batches-fit, calibrations-stay, permitted-leaves, leaves-permitted}
+use Rattle.theory.proofs.Started.{started-stays}
+use Rattle.theory.proofs.Claims.{homes, renumbered, numberAfter, Lends, Bounds, Plans, Claims}
 use Rattle.theory.proofs.Records.{records-lead}
 use Rattle.theory.proofs.Rewrite.{read-written, most-written}
-use Rattle.theory.proofs.Review.{Improves, review-settled, settled-review, settled-none, none-settled, review-first}
+use Rattle.theory.proofs.Review.{review-settled, settled-review, settled-none, none-settled, review-first}
 use Rattle.theory.proofs.Heights.{permitted-partial}
 use Rattle.theory.proofs.Ending.{trial-lifts, trial-pushes}
 use Rattle.theory.proofs.Trial.{Outcome, passes, fails, outcome, trial-permitted}
-use Rattle.theory.proofs.Balancing.{Counts}
 use Rattle.theory.proofs.Round.{close-mk, close-le, multiples-one, multiples-equal}
 use Rattle.theory.proofs.Planning.{rested-permitted, rested-settled, rested-makespan, rested-no-later, rested-moves, balanced-permitted, balanced-makespan, balanced-no-later, balanced-counts, balanced-close, balanced-bound-below, balanced-near-bound, balanced-witness}
-
--- ---- what is claimed on a book
-
--- Of every trial, whatever its level, whether balance makes it or the host asks for it. The places that a passed one shows, those of the
--- batches, make its assignment with the calibrations where they stand.
-pub record Trials (k : Book) : Type 0 where
-  pub lifts : (a : ℕ) → ended (instance k) (places k) a .lifts ≤ liftBound (instance k)
-  pub pushes : (a : ℕ) → ended (instance k) (places k) a .pushes ≤ pushBound (instance k)
-  pub valid : Valid (instance k)
-  pub permitted : Permitted (instance k) (places k)
-  pub outcomes : (a : ℕ) → Outcome (instance k) (places k) valid permitted a (trial (instance k) (places k) a)
-  pub shows : (a : ℕ) (x : Assignment) (r b : ℕ) → trial (instance k) (places k) a ≡ passed x r b → take (size k) x ++ homes k ≡ x
-
--- Of a call with a list lent for its records that leaves the assignment x. With an entry for each batch it answers its figures, with the
--- records that lead from the book's places to x; the book after it has the places of x, and differs in nothing else that plans look at.
--- With fewer it is refused, and the book stays.
-pub record Lends (k : Book) (call : ℕ → Call) (said : List Move → Answer) (x : Assignment) : Type 0 where
-  pub answers : (c : ℕ) → size k ≤ c → answer k (call c) ≡ said (recordsTo k x)
-  pub leads : follow (recordsTo k x) (places k) ≡ x
-  pub entered : (c : ℕ) → size k ≤ c → places (next k (call c)) ≡ x
-  pub same : (c : ℕ) → instance (next k (call c)) ≡ instance k
-  pub short : (c : ℕ) → c < size k → answer k (call c) ≡ R.refused bufferShort
-  pub stays : (c : ℕ) → c < size k → next k (call c) ≡ k
-
--- of balance, on any book; the counts it shows are those that the trial of its level made
-pub record Balances (k : Book) : Type 0 where
-  pub noLater : balanceBook k .makespan ≤ makespan (instance k) (places k)
-  pub permitted : Permitted (instance k) (balanceBook k .assignment)
-  pub makespan : balanceBook k .makespan ≡ makespan (instance k) (balanceBook k .assignment)
-  pub counts : Counts (instance k) (places k) (balanceBook k .level) (balanceBook k .lifts) (balanceBook k .pushes)
-  pub lends : Lends k balancing (balanced (balanceBook k)) (balanceBook k .assignment)
-
--- of settle, on any book; its moves are at most half the sum of squared loads
-pub record Settles (k : Book) : Type 0 where
-  pub lends : Lends k settling (settled (settleBook k)) (settleBook k .assignment)
-  pub noLater : settleBook k .makespan ≤ makespan (instance k) (places k)
-  pub permitted : Permitted (instance k) (settleBook k .assignment)
-  pub makespan : settleBook k .makespan ≡ makespan (instance k) (settleBook k .assignment)
-  pub settled : equilibrium (instance k) (settleBook k .assignment) ≡ true
-  pub moves : 2 * settleBook k .moves ≤ squares (instance k) (places k)
-
--- Of permitted assignments: they are the plans of the batches, each with the calibrations where they stand.
-pub record Calibrates (k : Book) : Type 0 where
-  pub every : (x : Assignment) → length x ≡ size k
-      → ((b : ℕ) → b < size k → mem (getD x b 0) (getD (k .batches) b noBatchHere .list) ≡ true) → Permitted (instance k) (x ++ homes k)
-  pub listed : (y : Assignment) → Permitted (instance k) y
-      → (b : ℕ) → b < size k → mem (getD y b 0) (getD (k .batches) b noBatchHere .list) ≡ true
-  pub only : (y : Assignment) → Permitted (instance k) y → drop (size k) y ≡ homes k
-  -- there is a job just where the book is busy
-  pub some : 0 < n (instance k) → busy k ≡ true
-
--- On a book with a batch, or a calibration above 0, of a finish after balance: for each g of which all lengths are multiples, those of
--- calibrations too, at most longest − g above any permitted plan, which has each calibration on its instrument; and at most longest − 1
--- above the lower bound, which no permitted plan is below, and which has its witness.
-pub record Bounds (k : Book) (finish : ℕ) : Type 0 where
-  pub close : (g : ℕ) → multiples (instance k) g ≡ true → (y : Assignment) → Permitted (instance k) y
-      → closeTo (instance k) g finish (makespan (instance k) y) ≡ true
-  pub below : (y : Assignment) → Permitted (instance k) y → balanceBook k .lowerBound ≤ makespan (instance k) y
-  pub near : closeTo (instance k) 1 finish (balanceBook k .lowerBound) ≡ true
-  pub witness : witnessed (instance k) (balanceBook k .group) (balanceBook k .lowerBound) ≡ true
-
--- Of settle straight after balance, whatever lists of enough entries are lent: what planning had. The makespan and the moves are settle's,
--- and the rest is balance's.
-pub record Plans (k : Book) : Type 0 where
-  pub said : (c d : ℕ) → size k ≤ c → size k ≤ d → answer (next k (balancing c)) (settling d)
-      ≡ settled (record { makespan = planBook k .makespan; moves = planBook k .moves; assignment = planBook k .assignment })
-      (recordsTo (next k (balancing c)) (planBook k .assignment))
-  pub lowerBound : planBook k .lowerBound ≡ balanceBook k .lowerBound
-  pub level : planBook k .level ≡ balanceBook k .level
-  pub lifts : planBook k .lifts ≡ balanceBook k .lifts
-  pub pushes : planBook k .pushes ≡ balanceBook k .pushes
-  pub group : planBook k .group ≡ balanceBook k .group
-  pub book : (c d : ℕ) → size k ≤ c → size k ≤ d → next (next k (balancing c)) (settling d) ≡ withPlaces k (planBook k .assignment)
-  pub noLater : planBook k .makespan ≤ makespan (instance k) (places k)
-  pub permitted : Permitted (instance k) (planBook k .assignment)
-  pub settled : equilibrium (instance k) (planBook k .assignment) ≡ true
-  pub bounds : busy k ≡ true → Bounds k (planBook k .makespan)
-  pub makespan : planBook k .makespan ≡ makespan (instance k) (planBook k .assignment)
-
--- of review: settled is answered exactly when no batch improves, and what improves is a batch and no calibration
-pub record Reviews (k : Book) : Type 0 where
-  pub settled : review (instance k) (places k) .improving ≡ 0 → (b : ℕ) → 0 < b → b ≤ n (instance k) → Improves (instance k) (places k) b → ⊥
-  pub unsettled : ((b : ℕ) → 0 < b → b ≤ n (instance k) → Improves (instance k) (places k) b → ⊥)
-      → review (instance k) (places k) .improving ≡ 0
-  pub batch : review (instance k) (places k) .improving ≤ size k
-
--- of the file written from it: it is read as the very same book, and has at most 32,758 bytes
-pub record Files (k : Book) : Type 0 where
-  pub same : read (written k) ≡ accepted k
-  pub few : length (written k) ≤ 32758
-
-pub record Claims (k : Book) : Type 0 where
-  pub sound : sound k ≡ true
-  pub files : Files k
-  pub reviews : Reviews k
-  pub calibrates : Calibrates k
-  pub trials : Trials k
-  pub balances : Balances k
-  pub bounds : busy k ≡ true → Bounds k (balanceBook k .makespan)
-  pub settles : Settles k
-  pub plans : Plans k
 
 -- ---- lent lists
 
@@ -153,7 +47,7 @@ module _ (k : Book) (x : Assignment) (w : Permitted (instance k) x) where
   placed-at = placed-places k x w
 
   picked-instance : (t : Bool) → instance (pick t (withPlaces k x) k) ≡ instance k
-  picked-instance true = placed-instance k x
+  picked-instance true = placed-instance k x (batches-fit k x w)
   picked-instance false = refl
 
   -- the records are of the batches alone, since calibrations stay
@@ -227,7 +121,7 @@ bounds-earlier {k} {f} {e} h b =
 
 -- settle on a book with other places
 pub settle-placed : (k : Book) (x : Assignment) → Permitted (instance k) x → settleBook (withPlaces k x) ≡ rested (instance k) x
-settle-placed k x w = ap₂ rested (placed-instance k x) (placed-at k x w)
+settle-placed k x w = ap₂ rested (placed-instance k x (batches-fit k x w)) (placed-at k x w)
 
 module _ (k : Book) (e : sound k ≡ true) where
   abbrev I : Instance
@@ -277,20 +171,42 @@ module _ (k : Book) (e : sound k ≡ true) where
     bounds = λ some. bounds-earlier (rw (balanced-makespan I (places k) v (sound-permitted k e)) (rested-no-later v w)) (bounds some);
   }
 
-improving-batch : (k : Book) → Permitted (instance k) (places k) → (r : ℕ) → review (instance k) (places k) .improving ≡ r → r ≤ size k
-improving-batch k w zero e = omega arith
-improving-batch k w (suc b) e = improves-batch k (places k) w (suc b) (review-first (instance k) (places k) b e .1)
+-- what improves
+module _ (k : Book) (e : sound k ≡ true) where
+  improving-few : (r : ℕ) → review (instance k) (places k) .improving ≡ r → r ≤ size k
+  improving-few zero q = omega arith
+  improving-few (suc b) q =
+      improves-batch k (places k) (sound-permitted k e) (suc b) (review-first (instance k) (places k) b q .1)
 
--- the places of a passed trial
-trial-shows : (k : Book) (v : Valid (instance k)) (w : Permitted (instance k) (places k)) (a : ℕ) {t : Tried} {x : Assignment} {r b : ℕ}
-    → Outcome (instance k) (places k) v w a t → t ≡ passed x r b → take (size k) x ++ homes k ≡ x
-trial-shows k v w a {x = x} (passes p) q =
+  improving-waits : (r : ℕ) → review (instance k) (places k) .improving ≡ r → batch k r .started ≡ false
+  improving-waits zero q = refl
+  improving-waits (suc b) q =
+      improves-waits k (places k) e (sound-permitted k e) (suc b) (review-first (instance k) (places k) b q .1)
+
+-- a passed trial is permitted
+trial-passed : (k : Book) (v : Valid (instance k)) (w : Permitted (instance k) (places k)) (a : ℕ) {t : Tried} {x : Assignment} {r b : ℕ}
+    → Outcome (instance k) (places k) v w a t → t ≡ passed x r b → Permitted (instance k) x
+trial-passed k v w a {x = x} (passes p) q =
     let e : ended (instance k) (places k) a .assignment ≡ x = cc in
-    let y = ended (instance k) (places k) a .assignment in
-    let h = trial-permitted (instance k) (places k) v w (atLevel (instance k) a) in
-    subst (λ (z : Assignment). take (size k) z ++ homes k ≡ z) e
-    (ap (λ (z : Assignment). take (size k) y ++ z) (sym (calibrations-stay k y h)) ∙ take-append-drop (size k) y)
-trial-shows k v w a (fails g f) q = absurd (let z : _≡_ {A = ℕ} 0 1 = cc in omega arith)
+    subst (Permitted (instance k)) e (trial-permitted (instance k) (places k) v w (atLevel (instance k) a))
+trial-passed k v w a (fails g f) q = absurd (let z : _≡_ {A = ℕ} 0 1 = cc in omega arith)
+
+-- and its places are those of the batches, with the calibrations where they stand
+trial-shows : (k : Book) {x : Assignment} → Permitted (instance k) x → take (size k) x ++ homes k ≡ x
+trial-shows k {x} h = ap (λ (z : Assignment). take (size k) x ++ z) (sym (calibrations-stay k x h)) ∙ take-append-drop (size k) x
+
+-- no call alters a started batch
+call-stays : (k : Book) → sound k ≡ true → (c : Call) (b : ℕ) → batch k b .started ≡ true → batch (next k c) (renumbered k c b) ≡ batch k b
+call-stays k e = started-stays k (balance-permitted k e) (settle-permitted k e)
+
+-- a started batch is as it was after every list of calls
+never-moved : (k : Book) (cs : List Call) (b : ℕ) → sound k ≡ true → batch k b .started ≡ true
+    → batch (bookAfter k cs) (numberAfter k cs b) ≡ batch k b
+unfolding bookAfter numberAfter
+never-moved k [] b h s = refl
+never-moved k (c ∷ cs) b h s =
+    let e = call-stays k h c b s in
+    never-moved (next k c) cs (renumbered k c b) (next-sound k c h) (ap (λ (d : Batch). d .started) e ∙ s) ∙ e
 
 pub sound-claims : (k : Book) → sound k ≡ true → Claims k
 sound-claims k e =
@@ -310,16 +226,28 @@ sound-claims k e =
       reviews = record {
         settled = λ z. settled-none I x (review-settled I x z);
         unsettled = λ h. settled-review I x (none-settled I x h);
-        batch = improving-batch k w (review I x .improving) refl;
+        few = improving-few k e (review I x .improving) refl;
+        waits = improving-waits k e (review I x .improving) refl;
       };
-      calibrates = record { every = λ y l h. homes-permitted k y e l h; listed = batch-listed k; only = calibrations-stay k; some = some-busy k };
+      permits = record {
+        every = λ y l h. leaves-permitted k y e l h;
+        leaves = λ y h. permitted-leaves k y e h;
+        only = calibrations-stay k;
+        some = some-busy k;
+      };
+      starts = record {
+        balanced = λ c b h. call-stays k e (balancing c) b h;
+        settled = λ c b h. call-stays k e (settling c) b h;
+        stays = λ cs b h. never-moved k cs b e h;
+      };
       trials = record {
         lifts = λ a. trial-lifts I x (permitted-partial w) (atLevel I a);
         pushes = λ a. trial-pushes I x (permitted-partial w) (atLevel I a);
         valid = v;
         permitted = w;
         outcomes = λ a. outcome I x v w a;
-        shows = λ a y r b q. trial-shows k v w a (outcome I x v w a) q;
+        shows = λ a y r b q. trial-shows k (trial-passed k v w a (outcome I x v w a) q);
+        leaves = λ a y r b q. permitted-leaves k y e (trial-passed k v w a (outcome I x v w a) q);
       };
       balances = record {
         noLater = balanced-no-later I x v w;

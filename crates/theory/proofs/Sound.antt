@@ -1,17 +1,17 @@
 -- A book that is read is sound, and stays sound under every edit.
 use Prim.Native.Nat.{ℕ, zero, suc, _-_, _≤_, _<_}
 use mathlib.Core.Path.{_≡_, refl, subst}
-use mathlib.Core.Bool.{Bool, true, false}
+use mathlib.Core.Bool.{Bool, true, false, not}
 use mathlib.Core.List.{List, [], _∷_, map}
 use native.Mathlib.Omega.{arith}
 use lib.ListN.{length, getD, length-append, length-set, length-map}
 use lib.Dec.{leb, ltb, eqb}
-use borrow.Author.Tests.{leb-true, ltb-true, eqb-true, le-leb}
-use Rattle.rules.specs.Fold.{_or_, at, mem, every}
+use borrow.Author.Tests.{leb-true, ltb-true, eqb-true, le-leb, not-true}
+use Rattle.rules.specs.Fold.{_and_, at, mem, every}
 use Rattle.rules.specs.Refusal.{Refusal}
-use Rattle.rules.specs.Sheet.{Batch, Book, size, batch, noBatchHere, isBatch, head, maxBatches, goodInstruments, goodMinutes, goodCalibrations, isInstrument, goodList, goodBatch, sound}
-use Rattle.rules.specs.Edit.{Edit, add, withdraw, requalify, move, Edited, edited, unless, kept, without, withBatch, edit}
-use Rattle.rules.specs.Read.{accepted, placeOr, read}
+use Rattle.rules.specs.Sheet.{Batch, Book, waiting, size, batch, noBatchHere, isBatch, head, maxBatches, goodInstruments, goodMinutes, goodCalibrations, isInstrument, goodList, goodBatch, sound}
+use Rattle.rules.specs.Edit.{Edit, add, withdraw, requalify, move, start, Edited, edited, unless, kept, without, withBatch, ifWaiting, edit}
+use Rattle.rules.specs.Read.{accepted, placeOr, goodPlace, read}
 use Rattle.rules.specs.Render.{givenNumber, Described, Description, batchWithinLimits, withinLimits, placed, bookSaid}
 use Rattle.theory.proofs.Logic.{byTest, conflict, and-left, and-right, and-mk, or-cases}
 use Rattle.theory.proofs.Member.{mem-head, every-append, every-one, every-at, every-set, every-mem}
@@ -87,10 +87,11 @@ kept-listed p l h = byTest (mem p l) (λ t. rw t t) (λ t. rw t (first-listed l 
 -- ---- reading
 
 -- a place not given is the first listed
-place-listed : (p : ℕ) (l : List ℕ) → 0 < length l → eqb p 0 or mem p l ≡ true → mem (placeOr p l) l ≡ true
-place-listed zero l h e = first-listed l h
-place-listed (suc p) l h e =
-    or-cases (eqb (suc p) 0) (mem (suc p) l) e (λ t. absurd (omega (arith, eqb-true (suc p) 0 t))) (λ t. t)
+place-listed : (s : Bool) (p : ℕ) (l : List ℕ) → 0 < length l → goodPlace s p l ≡ true → mem (placeOr p l) l ≡ true
+unfolding goodPlace
+place-listed s zero l h e = first-listed l h
+place-listed s (suc p) l h e =
+    or-cases (not s and eqb (suc p) 0) (mem (suc p) l) e (λ t. absurd (omega (arith, eqb-true (suc p) 0 (and-right (not s) _ t)))) (λ t. t)
 
 within-good : (m : ℕ) (b : Described) → batchWithinLimits m b ≡ true → goodBatch m (placed b) ≡ true
 within-good m b e =
@@ -98,7 +99,7 @@ within-good m b e =
     is-good m (placed b) (record {
       minutes = f .minutes;
       list = f .list;
-      place = place-listed (givenNumber (b .place)) (b .list) (good-some m (b .list) (f .list)) (f .place);
+      place = place-listed (b .started) (givenNumber (b .place)) (b .list) (good-some m (b .list) (f .list)) (f .place);
     })
 
 within-every : (m : ℕ) (bs : List Described) → every (batchWithinLimits m) bs ≡ true → every (goodBatch m) (map placed bs) ≡ true
@@ -126,6 +127,14 @@ read-sound s k e =
 passes : (t : Bool) (e : Refusal) (o : Edited) (j : Book) → unless t e o ≡ edited j → (t ≡ true) × (o ≡ edited j)
 passes true e o j h = (refl, h)
 passes false e o j h = absurd (let z : _≡_ {A = ℕ} 0 1 = cc in omega arith)
+
+-- an edit of a batch that has not started
+pub waits : (k : Book) (b : ℕ) (o : Edited) (j : Book) → ifWaiting k b o ≡ edited j
+    → (isBatch k b ≡ true) × (batch k b .started ≡ false) × (o ≡ edited j)
+waits k b o j h =
+    let a = passes (isBatch k b) _ _ j h in
+    let c = passes (not (batch k b .started)) _ o j (a .1) in
+    (a .0, not-true _ (c .0), c .1)
 
 without-length : (bs : List Batch) (k : ℕ) → length (without bs k) ≤ length bs
 without-length [] k = omega arith
@@ -168,7 +177,7 @@ edit-sound k (add t l) j v e =
     let a = passes (ltb (size k) maxBatches) _ _ j e in
     let b = passes (goodMinutes t) _ _ j (a .1) in
     let c = passes (goodList (k .m) l) _ _ j (b .1) in
-    let x : Batch = record { minutes = t; list = l; place = head l } in
+    let x = waiting t l (head l) in
     let h : size k < maxBatches = ltb-true _ _ (a .0) in
     let g : Good (k .m) x = record { minutes = b .0; list = c .0; place = first-listed l (good-some (k .m) l (c .0)) } in
     gave (record {
@@ -186,11 +195,11 @@ edit-sound k (withdraw b) j v e =
       calibrations = s .calibrations;
       room = omega (arith, without-length (k .batches) (b - 1), s .room);
       batches = without-every (goodBatch (k .m)) (k .batches) (b - 1) (s .batches);
-    }) (passes (isBatch k b) _ _ j e .1)
+    }) (waits k b _ j e .2)
 edit-sound k (requalify b l) j v e =
     let s = sound-is k v in
-    let a = passes (isBatch k b) _ _ j e in
-    let c = passes (goodList (k .m) l) _ _ j (a .1) in
+    let a = waits k b _ j e in
+    let c = passes (goodList (k .m) l) _ _ j (a .2) in
     gave (with-sound k b _ s (record {
       minutes = good-batch k b s (a .0) .minutes;
       list = c .0;
@@ -198,7 +207,12 @@ edit-sound k (requalify b l) j v e =
     })) (c .1)
 edit-sound k (move b i) j v e =
     let s = sound-is k v in
-    let a = passes (isBatch k b) _ _ j e in
-    let c = passes (mem i (batch k b .list)) _ _ j (a .1) in
+    let a = waits k b _ j e in
+    let c = passes (mem i (batch k b .list)) _ _ j (a .2) in
     let g = good-batch k b s (a .0) in
     gave (with-sound k b _ s (record { minutes = g .minutes; list = g .list; place = c .0 })) (c .1)
+edit-sound k (start b) j v e =
+    let s = sound-is k v in
+    let a = waits k b _ j e in
+    let g = good-batch k b s (a .0) in
+    gave (with-sound k b _ s (record { minutes = g .minutes; list = g .list; place = g .place })) (a .2)

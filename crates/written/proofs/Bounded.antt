@@ -1,4 +1,4 @@
--- What the call with a journal answers stays in bounds, and a buffer of 32,758 bytes is always enough.
+-- What the call with a journal answers stays in bounds, and a buffer of 33,958 bytes is always enough.
 use Prim.Native.Nat.{ℕ, _≤_, _<_}
 use mathlib.Core.Path.{_≡_, refl, sym}
 use mathlib.Core.List.{List}
@@ -23,8 +23,8 @@ module _ (s j buffer : List ℕ) where
   unfolding writeHost
   write-modest short = due-modest s j buffer short sheetText (read s) refl (journal-numbered j)
 
-  -- a buffer of 32,758 bytes holds every file
-  pub always-fits : (k : Book) (cs : List Call) → read s ≡ accepted k → journal j ≡ calls cs → 32758 ≤ length buffer
+  -- a buffer of 33,958 bytes holds every file
+  pub always-fits : (k : Book) (cs : List Call) → read s ≡ accepted k → journal j ≡ calls cs → 33958 ≤ length buffer
       → writeHost s j buffer
       ≡ record { refusal = 0; line = 0; length = length (sheetText k cs); buffer = atFront (sheetText k cs) buffer }
   unfolding writeHost
@@ -32,7 +32,7 @@ module _ (s j buffer : List ℕ) where
       let l = most-written (bookAfter k cs) (after-sound k cs (read-sound s k e)) in
       rw (e, f) (sym (into-long (sheetText k cs) buffer _ _ (omega arith) refl refl))
 
--- the first 32,759 bytes of a sheet decide
-pub write-bounded : (s j buffer : List ℕ) → writeHost (take 32759 s) j buffer ≡ writeHost s j buffer
+-- the first 33,959 bytes of a sheet decide
+pub write-bounded : (s j buffer : List ℕ) → writeHost (take 33959 s) j buffer ≡ writeHost s j buffer
 unfolding writeHost
 write-bounded s j buffer = rw (read-bounded s)

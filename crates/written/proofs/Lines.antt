@@ -7,6 +7,7 @@ use native.Mathlib.Omega.{arith}
 use lib.ListN.{length, getD, take, drop, length-append, length-drop}
 use lib.Seq.{paste, length-take-le}
 use Rattle.rules.specs.Render.{columns, fields, line, renderBatch}
+use Rattle.theory.proofs.Format.{mark-said}
 use Rattle.theory.proofs.Rewrite.{batch-length}
 use Rattle.text.proofs.Pasted.{Wrote, wrote-more, wrote-as}
 use Rattle.written.specs.Lines.{numberedBatch, batchIn, lineLength, linesLength, linesTo}
@@ -40,36 +41,34 @@ length-part counts b n h =
 
 -- ---- the text
 
--- a line is two fields, and the list
-pub batch-parts : (t p : ℕ) (l : List ℕ) → fields (t ∷ p ∷ []) ++ line (length l ∷ l) ≡ renderBatch (numberedBatch t p l)
+-- a line is two fields, the mark, and the list
+pub batch-parts : (t p v : ℕ) (l : List ℕ) → v ≤ 1
+    → (fields (t ∷ p ∷ []) ++ columns 6 v) ++ line (length l ∷ l) ≡ renderBatch (numberedBatch t p v l)
 unfolding fields
-batch-parts t p l =
-    let r = line (length l ∷ l) in
-    append-assoc (columns 6 t) (columns 6 p ++ []) r
-    ∙ ap (λ (u : List ℕ). columns 6 t ++ (u ++ r)) (append-nil (columns 6 p))
+batch-parts t p v l h = rw (mark-said v h) (simp (append-assoc, append-nil))
 
 pub list-length : {counts lists : List ℕ} {n : ℕ} (b : ℕ) → Rows counts lists n → b < n
     → length (take (getD counts b 0) (drop (b * 24) lists)) ≡ getD counts b 0
 list-length {counts} {lists} {n} b r h =
     length-take-le (getD counts b 0) (drop (b * 24) lists) (omega (arith, r .narrow b h, r .long, length-drop (b * 24) lists))
 
-pub lines-none : (minutes places counts lists : List ℕ) → linesTo minutes places counts lists 0 ≡ []
+pub lines-none : (minutes places started counts lists : List ℕ) → linesTo minutes places started counts lists 0 ≡ []
 unfolding linesTo
-lines-none minutes places counts lists = refl
+lines-none minutes places started counts lists = refl
 
-lines-snoc : (minutes places counts lists : List ℕ) (b : ℕ)
-    → linesTo minutes places counts lists b ++ renderBatch (batchIn minutes places counts lists b) ≡ linesTo minutes places counts lists (b + 1)
+lines-snoc : (minutes places started counts lists : List ℕ) (b : ℕ)
+    → linesTo minutes places started counts lists b ++ renderBatch (batchIn minutes places started counts lists b) ≡ linesTo minutes places started counts lists (b + 1)
 unfolding linesTo
-lines-snoc minutes places counts lists b = ap (linesTo minutes places counts lists) (sym (add-one b))
+lines-snoc minutes places started counts lists b = ap (linesTo minutes places started counts lists) (sym (add-one b))
 
-pub lines-length : {counts lists : List ℕ} {n : ℕ} (minutes places : List ℕ) (b : ℕ) → Rows counts lists n → b ≤ n
-    → length (linesTo minutes places counts lists b) ≡ linesLength counts b
+pub lines-length : {counts lists : List ℕ} {n : ℕ} (minutes places started : List ℕ) (b : ℕ) → Rows counts lists n → b ≤ n
+    → length (linesTo minutes places started counts lists b) ≡ linesLength counts b
 unfolding linesTo linesLength
-lines-length minutes places zero r h = refl
-lines-length {counts} {lists} minutes places (suc b) r h =
-    let x = batchIn minutes places counts lists b in
-    length-append (linesTo minutes places counts lists b) (renderBatch x)
-    ∙ omega (arith, lines-length minutes places b r (omega arith), batch-length x, list-length b r (omega arith))
+lines-length minutes places started zero r h = refl
+lines-length {counts} {lists} minutes places started (suc b) r h =
+    let x = batchIn minutes places started counts lists b in
+    length-append (linesTo minutes places started counts lists b) (renderBatch x)
+    ∙ omega (arith, lines-length minutes places started b r (omega arith), batch-length x, list-length b r (omega arith))
 
 -- a list as the part of lists from its start to its end
 pub list-part : (counts lists : List ℕ) (b : ℕ)
@@ -79,13 +78,13 @@ list-part counts lists b =
     ap (λ (i : ℕ). take i (drop (b * 24) lists)) e
 
 -- the next line
-pub lines-more : {d e f : List ℕ} {p n : ℕ} (minutes places counts lists : List ℕ) (b q : ℕ) → Rows counts lists n → b < n
-    → Wrote d p (linesTo minutes places counts lists b) (linesLength counts b) e → q ≡ p + linesLength counts b
+pub lines-more : {d e f : List ℕ} {p n : ℕ} (minutes places started counts lists : List ℕ) (b q : ℕ) → Rows counts lists n → b < n
+    → Wrote d p (linesTo minutes places started counts lists b) (linesLength counts b) e → q ≡ p + linesLength counts b
     → p + linesLength counts n ≤ length d
-    → f ≡ paste e q (renderBatch (batchIn minutes places counts lists b)) (lineLength (length (take (getD counts b 0) (drop (b * 24) lists))))
-    → Wrote d p (linesTo minutes places counts lists (b + 1)) (linesLength counts (b + 1)) f
-lines-more {e = e} {n = n} minutes places counts lists b q r h w a room g =
-    let x = batchIn minutes places counts lists b in
+    → f ≡ paste e q (renderBatch (batchIn minutes places started counts lists b)) (lineLength (length (take (getD counts b 0) (drop (b * 24) lists))))
+    → Wrote d p (linesTo minutes places started counts lists (b + 1)) (linesLength counts (b + 1)) f
+lines-more {e = e} {n = n} minutes places started counts lists b q r h w a room g =
+    let x = batchIn minutes places started counts lists b in
     let l = list-length b r h in
     let m = length-more counts b in
     wrote-as
@@ -93,4 +92,4 @@ lines-more {e = e} {n = n} minutes places counts lists b q r h w a room g =
     (batch-length x ∙ ap lineLength l)
     (omega (arith, m, length-part counts (b + 1) n (omega arith)))
     (g ∙ ap (λ (i : ℕ). paste e q (renderBatch x) (lineLength i)) l))
-    (lines-snoc minutes places counts lists b)
+    (lines-snoc minutes places started counts lists b)

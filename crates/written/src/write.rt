@@ -13,6 +13,7 @@ ghost use Rattle.written.specs.Lines.{numberedBatch, lineLength, linesLe
 use journal::run::left_by;
 use sheet::Sheet;
 use text::Hosted;
+use text::put_field;
 use text::put_line;
 use text::put_list;
 use text::put_pair;
@@ -21,15 +22,15 @@ use text::wide;
 
 // How many bytes the line of a batch has whose list has count instruments.
 fn line_length(count: u8) -> usize
-    ensures { λ r. ⌜ (r ≡ lineLength count) × (r ≤ 1549) ⌝ }
+    ensures { λ r. ⌜ (r ≡ lineLength count) × (r ≤ 1555) ⌝ }
 {
-    6 * count as usize + 19
+    6 * count as usize + 25
 }
 
 // How many bytes the lines of the first n batches have.
 fn lines_length(counts: &[u8], n: usize) -> usize
     requires { ⌜ (n ≤ 200) × (n ≤ length (now counts)) ⌝ }
-    ensures { λ r. ⌜ (r ≡ linesLength (now (counts .entry)) n) × (r ≤ 309800) ⌝ }
+    ensures { λ r. ⌜ (r ≡ linesLength (now (counts .entry)) n) × (r ≤ 311000) ⌝ }
 {
     let mut sum = 0;
     let mut b = 0;
@@ -41,13 +42,14 @@ fn lines_length(counts: &[u8], n: usize) -> usize
 }
 
 // Writes the line of a batch.
-fn put_batch(out: &mut [u8], at: usize, minutes: u16, place: u8, list: &[u8])
-    requires { ⌜ (at + lineLength (length (now list)) ≤ length (now out)) × (length (now list) ≤ 24) ⌝ }
+fn put_batch(out: &mut [u8], at: usize, minutes: u16, place: u8, started: u8, list: &[u8])
+    requires { ⌜ (at + lineLength (length (now list)) ≤ length (now out)) × (started ≤ 1) × (length (now list) ≤ 24) ⌝ }
     ensures { λ _. ⌜ now (out .exit)
-        ≡ paste (now (out .entry)) at (renderBatch (numberedBatch minutes place (now (list .entry)))) (lineLength (length (now (list .entry)))) ⌝ }
+        ≡ paste (now (out .entry)) at (renderBatch (numberedBatch minutes place started (now (list .entry)))) (lineLength (length (now (list .entry)))) ⌝ }
 {
     put_two(out, at, minutes as u32, wide(place));
-    put_list(out, at + 12, list);
+    put_field(out, at + 12, wide(started));
+    put_list(out, at + 18, list);
 }
 
 // Writes the lines of the first n batches from start on. Batch b's list starts at 24 (b - 1) in lists.
@@ -57,13 +59,16 @@ fn put_batches(
     n: usize,
     minutes: &[u16],
     places: &[u8],
+    started: &[u8],
     counts: &[u8],
     lists: &[u8],
 )
     requires { ⌜ (start + linesLength (now counts) n ≤ length (now out)) × (n ≤ 200) × (n ≤ length (now minutes)) × (n ≤ length (now places))
-        × (n ≤ length (now counts)) × (24 * n ≤ length (now lists)) ⌝ ∗ ⌜ ((b : ℕ) → b < n → getD (now counts) b 0 ≤ 24) ⌝ }
+        × (n ≤ length (now started)) × (n ≤ length (now counts)) × (24 * n ≤ length (now lists)) ⌝
+        ∗ ⌜ ((b : ℕ) → b < n → (getD (now started) b 0 ≤ 1) × (getD (now counts) b 0 ≤ 24)) ⌝ }
     ensures { λ _. ⌜ now (out .exit)
-        ≡ paste (now (out .entry)) start (linesTo (now (minutes .entry)) (now (places .entry)) (now (counts .entry)) (now (lists .entry)) n)
+        ≡ paste (now (out .entry)) start
+        (linesTo (now (minutes .entry)) (now (places .entry)) (now (started .entry)) (now (counts .entry)) (now (lists .entry)) n)
         (linesLength (now (counts .entry)) n) ⌝ }
 {
     let mut at = start;
@@ -72,7 +77,14 @@ fn put_batches(
         let count = counts[b];
         let from = b * Sheet::INSTRUMENTS;
         let end = from + count as usize;
-        put_batch(out, at, minutes[b], places[b], &lists[from..end]);
+        put_batch(
+            out,
+            at,
+            minutes[b],
+            places[b],
+            started[b],
+            &lists[from..end],
+        );
         at += line_length(count);
         b += 1;
     }
@@ -98,11 +110,12 @@ pub fn write(sheet: Sheet, out: &mut [u8]) -> Hosted
     }
     let minutes = sheet.minutes();
     let places = sheet.places();
+    let started = sheet.started();
     let lists = sheet.lists();
     let calibrations = sheet.calibrations();
     put_pair(out, m as u32, n as u32);
     put_line(out, 13, &calibrations[..m]);
-    put_batches(out, start, n, &minutes, &places, &counts, &lists);
+    put_batches(out, start, n, &minutes, &places, &started, &counts, &lists);
     Hosted {
         refusal: 0,
         line: 0,

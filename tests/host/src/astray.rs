@@ -1,10 +1,10 @@
 //! Planners that are right but for what they make of calibrations (document 02,
-//! C-16): each of them must be told from a right one.
+//! C-16) or of started batches (C-17): each of them must be told from a right one.
 
 use second::trial::State;
 use second::{Answer, Balanced, Batch, Call, Draft, Move, Refusal, Settled, Sheet, Trial, Verdict};
 
-/// What a planner takes a calibration above 0 for.
+/// What a planner takes a calibration above 0 for, and a started batch.
 #[derive(Clone, Copy, Debug)]
 pub struct Ways {
     /// Its minutes are in the loads, may be the longest, and are in the total and
@@ -26,6 +26,14 @@ pub struct Ways {
     /// It is one of the 200 batches, and one for which an entry is lent.
     pub full: bool,
     pub entries: bool,
+    /// A started batch: a trial may put it elsewhere on its list, or may not even
+    /// bump it.
+    pub leaves: bool,
+    pub frozen: bool,
+    /// It gains by its list, is confined by it, and adds it to a trial's group.
+    pub gains: bool,
+    pub wide: bool,
+    pub reaches: bool,
 }
 
 const RIGHT: Ways = Ways {
@@ -40,10 +48,15 @@ const RIGHT: Ways = Ways {
     placed: false,
     full: false,
     entries: false,
+    leaves: false,
+    frozen: false,
+    gains: false,
+    wide: false,
+    reaches: false,
 };
 
 /// The right way, and wrong ones.
-pub const WAYS: [(&str, Ways); 12] = [
+pub const WAYS: [(&str, Ways); 17] = [
     ("counts calibrations as it should", RIGHT),
     (
         "leaves calibrations out of the loads",
@@ -102,6 +115,41 @@ pub const WAYS: [(&str, Ways); 12] = [
         },
     ),
     (
+        "lets a trial move started batches",
+        Ways {
+            leaves: true,
+            ..RIGHT
+        },
+    ),
+    (
+        "never bumps a started batch",
+        Ways {
+            frozen: true,
+            ..RIGHT
+        },
+    ),
+    (
+        "lets a started batch gain",
+        Ways {
+            gains: true,
+            ..RIGHT
+        },
+    ),
+    (
+        "takes the lists of started batches for the floor",
+        Ways {
+            wide: true,
+            ..RIGHT
+        },
+    ),
+    (
+        "takes the lists of started batches for the group",
+        Ways {
+            reaches: true,
+            ..RIGHT
+        },
+    ),
+    (
         "gives the places of calibrations",
         Ways {
             placed: true,
@@ -135,11 +183,24 @@ fn bare(sheet: &Sheet) -> Sheet {
     Draft::from(sheet).calibrated(&none).sheet()
 }
 
+/// The sheet with no batch started.
+fn waiting(sheet: &Sheet) -> Sheet {
+    Draft::from(sheet).waiting().sheet()
+}
+
 /// The sheet that counts for loads.
 fn loaded(sheet: &Sheet, ways: Ways) -> Sheet {
     match ways.loads {
         true => sheet.clone(),
         false => bare(sheet),
+    }
+}
+
+/// The sheet that counts for gains.
+fn gaining(sheet: &Sheet, ways: Ways) -> Sheet {
+    match ways.gains {
+        true => waiting(&loaded(sheet, ways)),
+        false => loaded(sheet, ways),
     }
 }
 
@@ -152,9 +213,11 @@ fn longest(sheet: &Sheet, ways: Ways) -> u32 {
 
 /// Put the batches of a sheet at these places.
 fn place(sheet: &mut Sheet, places: &[u32]) {
-    for (&place, number) in places.iter().zip(1..) {
-        sheet.shift(number, place as u64).expect("a listed place");
+    let mut draft = Draft::from(&*sheet);
+    for (line, &place) in draft.lines.iter_mut().zip(places) {
+        line.place = Some(place);
     }
+    *sheet = draft.sheet();
 }
 
 fn records(before: &[u32], after: &Sheet) -> Vec<Move> {
@@ -163,6 +226,14 @@ fn records(before: &[u32], after: &Sheet) -> Vec<Move> {
     differ
         .map(|((from, to), batch)| Move { batch, from, to })
         .collect()
+}
+
+/// The batch, not started.
+fn opened(batch: Batch) -> Batch {
+    Batch {
+        started: false,
+        ..batch
+    }
 }
 
 /// A trial at a level that is not refused.
@@ -176,12 +247,20 @@ fn trial(sheet: &Sheet, level: u32, ways: Ways) -> Trial {
             length,
             list: if ways.anywhere { all.clone() } else { vec![j] },
             place: j,
+            started: false,
         });
     let own: Vec<Batch> = match ways.bumped && ways.loads {
         true => own.filter(|b| b.length > 0 || ways.zero).collect(),
         false => Vec::new(),
     };
-    let (batches, n) = (sheet.batches().to_vec(), sheet.batches().len());
+    let mut batches = match ways.leaves {
+        true => waiting(sheet).batches().to_vec(),
+        false => sheet.batches().to_vec(),
+    };
+    if ways.frozen {
+        batches.retain(|b| !b.started);
+    }
+    let n = batches.len();
     let skipped = if ways.first { own.len() } else { 0 };
     let items = match ways.first {
         true => [own, batches].concat(),
@@ -194,11 +273,23 @@ fn trial(sheet: &Sheet, level: u32, ways: Ways) -> Trial {
         state.make(act);
     }
     let places = state.places.clone();
+    let open: Vec<Batch> = items.iter().cloned().map(opened).collect();
+    if ways.reaches {
+        state.items = &open;
+    }
     let mut answer = state.answer();
     if let Verdict::Pass(found) = &mut answer.verdict {
+        let mut moved = places[skipped..skipped + n].iter().copied();
         *found = match ways.placed {
             true => places,
-            false => places[skipped..skipped + n].to_vec(),
+            false if ways.frozen => {
+                let place = |b: &Batch| match b.started {
+                    true => b.place,
+                    false => moved.next().expect("a place"),
+                };
+                sheet.batches().iter().map(place).collect()
+            }
+            false => moved.collect(),
         };
     }
     answer
@@ -225,9 +316,10 @@ pub fn balance(sheet: &mut Sheet, ways: Ways) -> Balanced {
     }
     place(sheet, &kept[..before.len()]);
     let share = |group: &Vec<u32>| {
-        let minutes = match ways.confined {
-            true => sheet.confined(group),
-            false => bare(sheet).confined(group),
+        let minutes = match (ways.confined, ways.wide) {
+            (false, _) => bare(sheet).confined(group),
+            (_, true) => waiting(sheet).confined(group),
+            _ => sheet.confined(group),
         };
         minutes.div_ceil(group.len() as u32)
     };
@@ -244,7 +336,7 @@ pub fn balance(sheet: &mut Sheet, ways: Ways) -> Balanced {
 
 /// Settle with entries enough.
 pub fn settle(sheet: &mut Sheet, ways: Ways) -> Settled {
-    let mut other = loaded(sheet, ways);
+    let mut other = gaining(sheet, ways);
     let answer = second::settle(&mut other, Sheet::BATCHES as u64).expect("entries enough");
     place(sheet, &other.places());
     answer
@@ -262,7 +354,7 @@ pub fn apply(sheet: &mut Sheet, call: &Call, ways: Ways) -> Answer {
         Call::Add { .. } if ways.full && n + more >= Sheet::BATCHES => {
             Answer::Refused(Refusal::Full)
         }
-        Call::Review => Answer::Review(second::review(&loaded(sheet, ways))),
+        Call::Review => Answer::Review(second::review(&gaining(sheet, ways))),
         Call::Trial { level } if level > total as u64 => Answer::Refused(Refusal::Level),
         Call::Trial { level } => Answer::Trial(trial(sheet, level as u32, ways)),
         Call::Balance { entries } | Call::Settle { entries } if entries < due as u64 => {

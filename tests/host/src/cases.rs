@@ -28,6 +28,7 @@ const WIDE: Shape = Shape {
     batches: (0, 12),
     lengths: (1, 1440),
     calibrations: Sheet::CALIBRATION,
+    started: true,
 };
 
 /// Many short batches on many instruments: long trials.
@@ -36,6 +37,7 @@ const CROWDED: Shape = Shape {
     batches: (100, 200),
     lengths: (1, 9),
     calibrations: 20,
+    started: true,
 };
 
 fn shape(rng: &mut Rng) -> Shape {
@@ -67,13 +69,17 @@ pub fn largest(seed: u64, count: usize) -> Vec<Case> {
             0 => None,
             _ => Some(rng.within(0, 24)),
         },
+        mark: 0,
         list: gen::list(rng, 24, 24),
     };
     let case = |_| {
+        let calibrations = gen::calibrations(&mut rng, 24, Sheet::CALIBRATION);
+        let mut lines: Vec<Line> = (0..200).map(|_| line(&mut rng)).collect();
+        gen::start(&mut rng, &mut lines);
         let draft = Draft {
             instruments: 24,
-            calibrations: gen::calibrations(&mut rng, 24, Sheet::CALIBRATION),
-            lines: (0..200).map(|_| line(&mut rng)).collect(),
+            calibrations,
+            lines,
         };
         Case::from(draft.render())
     };
@@ -94,9 +100,12 @@ pub fn damaged(seed: u64, count: usize) -> Vec<Case> {
     (0..count).map(case).collect()
 }
 
-/// A place for this list: left blank, 0, the first listed or the last.
-fn place(rng: &mut Rng, list: &[u32]) -> Option<u32> {
-    *rng.pick(&[None, Some(0), list.first().copied(), list.last().copied()])
+/// A place for this list: left blank, 0, the first listed or the last; and a mark
+/// that goes with it.
+fn place(rng: &mut Rng, list: &[u32]) -> (Option<u32>, u32) {
+    let place = *rng.pick(&[None, Some(0), list.first().copied(), list.last().copied()]);
+    let given = place.is_some_and(|place| place != 0);
+    (place, (given && rng.once_in(2)) as u32)
 }
 
 /// One small sheet spoilt at every byte: the byte changed, another put before
@@ -108,7 +117,7 @@ pub fn every_byte(seed: u64) -> Vec<Case> {
     draft.lines.truncate(rng.within(1, 3) as usize);
     for line in &mut draft.lines {
         line.list.truncate(rng.within(1, 6) as usize);
-        line.place = place(&mut rng, &line.list);
+        (line.place, line.mark) = place(&mut rng, &line.list);
     }
     let file = draft.render();
     let mut cases = Vec::new();
@@ -147,17 +156,19 @@ pub fn every_field(seed: u64) -> Vec<Case> {
     let mut draft = Draft::new(24, &[]).calibrated(&calibrations);
     for _ in 0..n {
         let list = gen::list(&mut rng, 24, 24);
+        let (place, mark) = place(&mut rng, &list);
         draft.lines.push(Line {
             length: rng.within(1, 1440),
-            place: place(&mut rng, &list),
+            place,
+            mark,
             list,
         });
     }
     let file = draft.render();
     let line = rng.below(n as u64) as usize;
-    let start = 13 + (24 * 6 + 1) + line * (27 * 6 + 1);
+    let start = 13 + (24 * 6 + 1) + line * (28 * 6 + 1);
     let calibrations = (0..24).map(|field| 13 + 6 * field);
-    let batch = (0..27).map(|field| start + 6 * field);
+    let batch = (0..28).map(|field| start + 6 * field);
     let mut cases = Vec::new();
     for at in calibrations.chain(batch) {
         for text in TEXTS {
@@ -202,7 +213,7 @@ pub fn faulty(seed: u64, count: usize) -> Vec<Case> {
 enum Change {
     /// Another number of batches in line 1.
     Batches,
-    /// Another number in the third field of a line, its list kept.
+    /// Another number in the fourth field of a line, its list kept.
     Count { line: usize, count: u32 },
     /// Blanks in some field of a line; the place may be left so.
     Blank { line: usize },
@@ -221,7 +232,7 @@ impl Change {
             }
             Change::Count { line, count } => {
                 if let Some(start) = line_start(file, line) {
-                    if let Some(field) = file.get_mut(start + 12..start + 18) {
+                    if let Some(field) = file.get_mut(start + 18..start + 24) {
                         field.copy_from_slice(format!("{count:>6}").as_bytes());
                     }
                 }
@@ -240,7 +251,7 @@ impl Change {
                 }
             }
             Change::Tail => {
-                let line = "     1     1     1     1\n";
+                let line = "     1     1     0     1     1\n";
                 let tail = *rng.pick(&["\n", " ", "\0", "     0", line]);
                 file.extend(tail.bytes());
             }
@@ -260,7 +271,7 @@ fn fault(rng: &mut Rng, draft: &mut Draft) -> Option<Change> {
     // A first fault may have spoilt the number of instruments.
     let m = draft.instruments.clamp(1, 24);
     let at = rng.below(draft.lines.len() as u64) as usize;
-    let kind = rng.below(22);
+    let kind = rng.below(25);
     let line = &mut draft.lines[at];
     if line.list.is_empty() {
         return Some(Change::Tail);
@@ -311,6 +322,11 @@ fn fault(rng: &mut Rng, draft: &mut Draft) -> Option<Change> {
                 draft.calibrations.push(*rng.pick(&[0, 240, 241]));
             }
         }
+        19 => line.mark = *rng.pick(&[2, 3, 9, 10, 11, 256, 257, 65_537, 999_999]),
+        20 | 21 => {
+            line.mark = 1;
+            line.place = *rng.pick(&[None, Some(0)]);
+        }
         _ => {
             let k = rng.below(draft.calibrations.len() as u64) as usize;
             draft.calibrations[k] = *rng.pick(&[241, 242, 256, 257, 496, 65_536, 65_776, 999_999]);
@@ -339,7 +355,10 @@ pub fn edits(seed: u64, count: usize) -> Vec<Case> {
             for line in &mut draft.lines {
                 line.list.truncate(4);
                 if line.given().is_some_and(|j| !line.list.contains(&j)) {
-                    line.place = *rng.pick(&[Some(0), None]);
+                    line.place = match line.started() {
+                        true => Some(line.list[0]),
+                        false => *rng.pick(&[Some(0), None]),
+                    };
                 }
             }
         }
@@ -450,13 +469,15 @@ fn levels(rng: &mut Rng, sheet: &Sheet, times: usize, calls: &mut Vec<Call>) {
     }
 }
 
-/// Hard sheets of 24 instruments and 200 batches, each with some edits; those of
-/// odd seeds have calibrations.
+/// Hard sheets of 24 instruments and 200 batches, each with some edits; of four
+/// seeds the second and the fourth have calibrations, and the third has started
+/// batches.
 pub fn hard_edits(seed: u64, count: usize) -> Vec<(Sheet, Vec<Call>)> {
     let mut rng = Rng::new(seed);
     let case = |_| {
-        let start = match seed % 2 {
+        let start = match seed % 4 {
             0 => gen::hard(rng.next_u64()),
+            2 => gen::hard_started(rng.next_u64()),
             _ => gen::hard_calibrated(rng.next_u64()),
         };
         let mut sheet = start.clone();
@@ -508,7 +529,7 @@ fn halving(sheet: &Sheet, calls: &mut Vec<Call>) {
 
 fn edit(rng: &mut Rng, sheet: &Sheet) -> Call {
     let full = sheet.batches().len() == Sheet::BATCHES;
-    match rng.below(8) {
+    match rng.below(9) {
         0 | 1 => Call::Add {
             length: length(rng),
             list: list(rng, sheet),
@@ -524,6 +545,9 @@ fn edit(rng: &mut Rng, sheet: &Sheet) -> Call {
         4 | 5 => Call::Requalify {
             number: number(rng, sheet),
             list: list(rng, sheet),
+        },
+        6 => Call::Start {
+            number: number(rng, sheet),
         },
         _ => {
             let number = number(rng, sheet);

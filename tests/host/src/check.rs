@@ -238,6 +238,12 @@ pub struct Plans {
     pub calibrated: usize,
     pub only: usize,
     pub longer: usize,
+    /// Sheets with some of several batches started and with all, and started
+    /// batches, all of them and those with more than one instrument listed.
+    pub some_started: usize,
+    pub all_started: usize,
+    pub started: usize,
+    pub held: usize,
     /// Batches with a place given, with place 0 and with a blank one.
     pub given: usize,
     pub open: usize,
@@ -317,13 +323,21 @@ impl Plans {
         let calibrations = lines.next().expect("line 2").chunks(6);
         let minutes = |field| String::from_utf8_lossy(field).trim_start().parse().ok();
         let calibration: u32 = calibrations.filter_map(minutes).max().expect("a field");
+        let mut started = 0;
         for line in lines.take(n) {
             match &line[6..12] {
                 b"     0" => self.open += 1,
                 b"      " => self.blank += 1,
                 _ => self.given += 1,
             }
+            if line[12..18] == *b"     1" {
+                started += 1;
+                self.held += (line.len() > 6 * 5) as usize;
+            }
         }
+        self.started += started;
+        self.some_started += (0 < started && started < n) as usize;
+        self.all_started += (0 < n && started == n) as usize;
         match read.group.len() {
             0 => self.none += 1,
             k if k < m => self.some += 1,
@@ -350,6 +364,10 @@ impl Plans {
         self.calibrated += other.calibrated;
         self.only += other.only;
         self.longer += other.longer;
+        self.some_started += other.some_started;
+        self.all_started += other.all_started;
+        self.started += other.started;
+        self.held += other.held;
         self.given += other.given;
         self.open += other.open;
         self.blank += other.blank;

@@ -4,7 +4,7 @@
 
 use std::fmt::Debug;
 
-use second::Fault;
+use second::{gen, Fault};
 
 use crate::cases::Case;
 use crate::check::Lent;
@@ -314,6 +314,8 @@ pub struct Met {
     /// Good ones without a batch, and of 24 instruments and 200 batches.
     pub empty: usize,
     pub largest: usize,
+    /// Good ones with a started batch.
+    pub started: usize,
     pub balanced: Calls,
     pub settled: Calls,
     /// Balancings with a group, and with a group of all instruments.
@@ -340,6 +342,8 @@ impl Met {
         let all = sheet[..6] == *format!("{:>6}", balanced.answer.size).as_bytes();
         self.empty += (n == 0) as usize;
         self.largest += (sheet.starts_with(b"    24") && n == 200) as usize;
+        let marked = |&at: &usize| sheet[at..at + 6] == *b"     1";
+        self.started += gen::marks(sheet).iter().any(marked) as usize;
         self.grouped += (balanced.answer.size > 0) as usize;
         self.all += all as usize;
         let records = [balanced.records.len(), settled.records.len()];
@@ -355,6 +359,7 @@ impl Met {
         self.good += other.good;
         self.empty += other.empty;
         self.largest += other.largest;
+        self.started += other.started;
         for (ours, theirs) in [
             (&mut self.balanced, other.balanced),
             (&mut self.settled, other.settled),
@@ -383,6 +388,7 @@ impl Met {
             good,
             empty,
             largest,
+            started,
             grouped,
             all,
             shifted,
@@ -393,8 +399,8 @@ impl Met {
             ..
         } = self;
         format!(
-            "{sheets} sheets, {good} good, {empty} without a batch, {largest} of the largest; by \
-             refusal {balanced:?} balanced, {settled:?} settled; {grouped} with a group, {all} of \
+            "{sheets} sheets, {good} good, {empty} without a batch, {largest} of the largest, \
+             {started} with started batches; by refusal {balanced:?} balanced, {settled:?} settled; {grouped} with a group, {all} of \
              all; {shifted} and {moved} with records, at most {most:?}, {repeated} with more moves; \
              {different} left otherwise by the two"
         )

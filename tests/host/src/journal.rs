@@ -17,6 +17,7 @@ pub fn kind(call: &Call) -> u64 {
         Call::Trial { .. } => 6,
         Call::Balance { .. } => 7,
         Call::Settle { .. } => 8,
+        Call::Start { .. } => 9,
     }
 }
 
@@ -28,7 +29,7 @@ pub fn numbers(call: &Call) -> Vec<u64> {
             numbers.extend([*a, list.len() as u64]);
             numbers.extend(list);
         }
-        Call::Withdraw { number } => numbers.push(*number),
+        Call::Withdraw { number } | Call::Start { number } => numbers.push(*number),
         Call::Move { number, instrument } => numbers.extend([number, instrument]),
         Call::Trial { level } => numbers.push(*level),
         Call::Balance { entries } | Call::Settle { entries } => numbers.push(*entries),
@@ -91,6 +92,7 @@ fn call(line: &[u8]) -> Option<Call> {
         [6, level] => Call::Trial { level },
         [7, entries] => Call::Balance { entries },
         [8, entries] => Call::Settle { entries },
+        [9, number] => Call::Start { number },
         _ => return None,
     })
 }

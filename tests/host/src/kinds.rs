@@ -1,5 +1,6 @@
-//! Kinds of sheets at the limits: 24 instruments and 200 batches. But for one
-//! hard shape no calibration is above 0.
+//! Kinds of sheets at the limits: 24 instruments and 200 batches. But for one hard
+//! shape no calibration is above 0. Batches have started in one hard shape, and where
+//! the kind of places says so.
 
 use second::rng::Rng;
 use second::{gen, Draft, Line};
@@ -30,6 +31,8 @@ pub enum Places {
     Open,
     /// All on one instrument, which is in every list.
     Crowded,
+    /// One of the list; none of the batches, some or all have started there.
+    Started,
 }
 
 #[derive(Clone, Copy, Debug)]
@@ -43,7 +46,12 @@ impl Kind {
     /// Every kind.
     pub fn all() -> Vec<Kind> {
         let mut kinds = Vec::new();
-        for places in [Places::Given, Places::Open, Places::Crowded] {
+        for places in [
+            Places::Given,
+            Places::Open,
+            Places::Crowded,
+            Places::Started,
+        ] {
             for lists in [Lists::Short, Lists::Long] {
                 for lengths in [Lengths::Equal, Lengths::Round, Lengths::Random] {
                     kinds.push(Kind {
@@ -71,6 +79,7 @@ impl Kind {
             Places::Given => "places given",
             Places::Open => "places not given",
             Places::Crowded => "one crowded",
+            Places::Started => "some started",
         };
         format!("{lists}, {lengths}, {places}")
     }
@@ -92,7 +101,7 @@ impl Kind {
             };
             let mut list = gen::list(rng, m, count);
             let place = match self.places {
-                Places::Given => *rng.pick(&list),
+                Places::Given | Places::Started => *rng.pick(&list),
                 Places::Open => 0,
                 Places::Crowded => {
                     if !list.contains(&crowded) {
@@ -109,10 +118,14 @@ impl Kind {
             Line {
                 length,
                 place: Some(place),
+                mark: 0,
                 list,
             }
         };
-        let lines = (0..200).map(line).collect();
+        let mut lines: Vec<Line> = (0..200).map(line).collect();
+        if let Places::Started = self.places {
+            gen::start(rng, &mut lines);
+        }
         Draft {
             lines,
             ..Draft::new(m, &[])
@@ -128,6 +141,11 @@ pub fn hard(seed: u64) -> Vec<u8> {
 /// The hard shape with calibrations.
 pub fn hard_calibrated(seed: u64) -> Vec<u8> {
     Draft::from(&gen::hard_calibrated(seed)).render()
+}
+
+/// The hard shape with started batches.
+pub fn hard_started(seed: u64) -> Vec<u8> {
+    Draft::from(&gen::hard_started(seed)).render()
 }
 
 /// A sheet of this kind whose last byte, and nothing before it, is a fault.

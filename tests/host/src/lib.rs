@@ -16,6 +16,7 @@ pub mod marks;
 pub mod runs;
 pub mod seen;
 pub mod share;
+pub mod told;
 
 /// What every call returns: refusal 0 and how many bytes the text has, or a
 /// refusal of the sheet or the journal with its line (0 where the buffer is
@@ -121,14 +122,22 @@ extern "C" {
 /// The sheet of document 01's first case.
 pub const SHEET: &str = "     2     3
      0     0
-    30     1     2     1     2
-    20     1     1     1
-    10     1     2     1     2
+    30     1     0     2     1     2
+    20     1     0     1     1
+    10     1     0     2     1     2
+";
+
+/// The same, with its first batch started.
+pub const STARTED: &str = "     2     3
+     0     0
+    30     1     1     2     1     2
+    20     1     0     1     1
+    10     1     0     2     1     2
 ";
 
 /// The most bytes that a written sheet has: 24 calibrations, and 200 batches,
-/// each with a list of 24 instruments.
-pub const LARGEST_SHEET: usize = 13 + (6 * 24 + 1) + 200 * (6 * 27 + 1);
+/// each with a mark and a list of 24 instruments.
+pub const LARGEST_SHEET: usize = 13 + (6 * 24 + 1) + 200 * (6 * 28 + 1);
 
 /// No answer's line has more bytes: a balance of 200 batches that all move, with
 /// a group of 24, would have so many.

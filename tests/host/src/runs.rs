@@ -315,10 +315,11 @@ pub struct Left {
     pub full: usize,
     /// Sheets with a calibration above 0.
     pub calibrated: usize,
-    /// Batches left with a list that does not ascend, and on another instrument
-    /// than the first listed.
+    /// Batches left with a list that does not ascend, on another instrument than
+    /// the first listed, and started.
     pub unordered: usize,
     pub elsewhere: usize,
+    pub started: usize,
 }
 
 impl Left {
@@ -335,6 +336,7 @@ impl Left {
         for batch in sheet.batches() {
             self.unordered += !batch.list.is_sorted() as usize;
             self.elsewhere += (batch.place != batch.list[0]) as usize;
+            self.started += batch.started as usize;
         }
     }
 
@@ -347,6 +349,7 @@ impl Left {
         self.calibrated += other.calibrated;
         self.unordered += other.unordered;
         self.elsewhere += other.elsewhere;
+        self.started += other.started;
     }
 }
 

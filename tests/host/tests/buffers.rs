@@ -90,7 +90,7 @@ fn bytes_beside_the_sheet() {
         let own = file.len();
         // What would go on well as a sheet, and what would not.
         file.extend(match round % 3 {
-            0 => b"     1     1     1     1\n".as_slice(),
+            0 => b"     1     1     0     1     1\n".as_slice(),
             1 => b"\n\n\n\n\n\n\n\n",
             _ => b"99999999",
         });
@@ -129,6 +129,18 @@ fn filled(sheet: &[u8], starts: Vec<usize>, text: &[u8; 6]) -> Vec<u8> {
     sheet
 }
 
+/// The sheet with another text for a mark.
+fn remarked(sheet: &[u8], mark: &[u8; 6], other: &[u8; 6]) -> Vec<u8> {
+    let mut sheet = sheet.to_vec();
+    for at in gen::marks(&sheet) {
+        let field = &mut sheet[at..at + 6];
+        if *field == *mark {
+            field.copy_from_slice(other);
+        }
+    }
+    sheet
+}
+
 /// A planner that is right but for one thing.
 type Cheat = (&'static str, fn(&[u8], &mut [u8]) -> Hosted);
 
@@ -137,7 +149,7 @@ fn lines(sheet: &[u8]) -> Vec<&[u8]> {
     sheet.split_inclusive(|&b| b == b'\n').collect()
 }
 
-const CHEATS: [Cheat; 25] = [
+const CHEATS: [Cheat; 31] = [
     ("writes past the listing", |sheet, listing| {
         let hosted = plan(sheet, listing);
         if let Some(next) = listing.get_mut(hosted.length as usize) {
@@ -291,6 +303,35 @@ const CHEATS: [Cheat; 25] = [
         let line = hosted.line - (hosted.line > 2) as usize;
         Hosted { line, ..hosted }
     }),
+    ("takes a mark of 2 for 1", |sheet, listing| {
+        plan(&remarked(sheet, b"     2", b"     1"), listing)
+    }),
+    ("takes a mark of 2 for 0", |sheet, listing| {
+        plan(&remarked(sheet, b"     2", b"     0"), listing)
+    }),
+    ("takes a blank mark for 0", |sheet, listing| {
+        plan(&remarked(sheet, b"      ", b"     0"), listing)
+    }),
+    ("takes no notice of marks", |sheet, listing| {
+        plan(&remarked(sheet, b"     1", b"     0"), listing)
+    }),
+    ("judges the mark after the count", |sheet, listing| {
+        // With a good mark, unless nothing else is wrong.
+        let other = plan(&remarked(sheet, b"     2", b"     0"), &mut []);
+        match plan(sheet, listing) {
+            hosted if hosted.refusal == 1 && other.refusal == 4 => other,
+            hosted => hosted,
+        }
+    }),
+    ("takes a started batch without a place", |sheet, listing| {
+        let mut sheet = sheet.to_vec();
+        for at in gen::marks(&sheet) {
+            if sheet[at - 6..at + 6] == *b"           1" {
+                sheet.copy_within(at + 12..at + 18, at - 6);
+            }
+        }
+        plan(&sheet, listing)
+    }),
     ("leaves out the last LF", |sheet, listing| {
         let mut hosted = plan(sheet, listing);
         if hosted.refusal == 0 {
@@ -315,7 +356,7 @@ fn cheats_are_caught() {
     let mut place = SHEET.as_bytes().to_vec();
     place[2 * 13 + 11] = b'3';
     let without = SHEET.replace("     0     0\n", "");
-    let sheets: [&[u8]; 12] = [
+    let sheets: [&[u8]; 17] = [
         SHEET.as_bytes(),
         without.as_bytes(),
         b"     2     0\n   240     0\n",
@@ -326,8 +367,13 @@ fn cheats_are_caught() {
         &bad,
         &place,
         b"     1     0\n     0\n",
-        b"     2     1\n     0     0\n     5           2     2     1\n",
+        b"     2     1\n     0     0\n     5           0     2     2     1\n",
         b"     1      \n",
+        b"     2     2\n     0     0\n    10     1     1     2     1     2\n    10     1     1     1     1\n",
+        b"     2     1\n     0     0\n    10     1     2     1     1\n",
+        b"     2     1\n     0     0\n    10     1     2     3\n",
+        b"     2     1\n     0     0\n    10     1           1     1\n",
+        b"     2     1\n     0     0\n    10           1     2     1     2\n",
     ];
     let verdict = |planner: fn(&[u8], &mut [u8]) -> Hosted| -> Result<(), String> {
         let mut judge = Judge::new(planner);

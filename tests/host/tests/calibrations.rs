@@ -3,43 +3,12 @@
 
 use host::filed::made;
 use host::journal::journal;
-use host::{balance, plan, rewrite, run, settle, text, write, Move, LARGEST_SHEET, SHEET};
+use host::told::{answers, file, listed, numbers, refused, written};
+use host::{balance, plan, run, settle, write, Move, LARGEST_SHEET, SHEET};
 use second::gen::{self, Shape};
 use second::rng::Rng;
 use second::trial::{Act, State};
 use second::{trial, Call, Draft, Verdict};
-
-/// A text, or a refusal and its line.
-type Told = Result<String, (u32, usize)>;
-
-fn listed(sheet: &str) -> Told {
-    text(|listing| plan(sheet.as_bytes(), listing))
-}
-
-fn answers(sheet: &str, journal: &str) -> Told {
-    text(|answers| run(sheet.as_bytes(), journal.as_bytes(), answers))
-}
-
-fn written(sheet: &str) -> Told {
-    text(|written| rewrite(sheet.as_bytes(), written))
-}
-
-fn file(draft: &Draft) -> String {
-    String::from_utf8(draft.render()).unwrap()
-}
-
-/// The refusal and the line that all five calls give for a sheet.
-fn refused(sheet: &str) -> (u32, usize) {
-    let fault = listed(sheet).expect_err(sheet);
-    assert_eq!(answers(sheet, "     5\n"), Err(fault));
-    assert_eq!(written(sheet), Err(fault));
-    let (mut moves, mut buffer) = ([Move::default(); 200], vec![0; LARGEST_SHEET]);
-    let balanced = balance(sheet.as_bytes(), &mut moves, &mut buffer);
-    let settled = settle(sheet.as_bytes(), &mut moves, &mut buffer);
-    assert_eq!((balanced.refusal, balanced.line), fault);
-    assert_eq!((settled.refusal, settled.line), fault);
-    fault
-}
 
 /// Each calibration at its limits, with all others at theirs.
 #[test]
@@ -105,13 +74,13 @@ fn sheets_without_line_2() {
         let lines: Vec<&str> = sheet.split_inclusive('\n').collect();
         [&lines[..1], &lines[2..]].concat().concat()
     };
-    // Four good calibrations where two are due: the LF is missing.
+    // Six good calibrations where two are due: the LF is missing.
     assert_eq!(refused(&old(SHEET)), (1, 2));
     assert_eq!(refused("     2     0\n"), (1, 2));
     assert_eq!(refused("    24     0\n"), (1, 2));
     // The first batch's line passes for line 2, and the last batch is missing.
-    let four = Draft::new(4, &[(30, 0, &[2]), (20, 0, &[3])]);
-    assert_eq!(refused(&old(&file(&four))), (1, 4));
+    let five = Draft::new(5, &[(30, 0, &[2]), (20, 0, &[3])]);
+    assert_eq!(refused(&old(&file(&five))), (1, 4));
     // Its length does not.
     let long = Draft::new(2, &[(241, 0, &[1, 2])]);
     assert_eq!(refused(&old(&file(&long))), (10, 2));
@@ -184,13 +153,6 @@ fn a_calibration_is_bumped_and_goes_back() {
     assert_eq!(answers(&sheet, "     6     0\n").unwrap(), told);
 }
 
-/// Numbers of an answer's line.
-fn numbers(line: &str) -> Vec<u64> {
-    let fields = line.as_bytes().chunks(6);
-    let number = |field| String::from_utf8_lossy(field).trim_start().parse().unwrap();
-    fields.map(number).collect()
-}
-
 /// The most raises of a trial with so many batches and calibrations that count.
 fn most_raises(m: u64, items: u64) -> u64 {
     m * (2 * m + 1) + items * (2 * m + 2)
@@ -217,6 +179,7 @@ fn counts_of_trials() {
             batches: [(0, 5), (1, 1)][round % 2],
             lengths: (1, 6),
             calibrations: 6,
+            started: true,
         };
         let draft = gen::draft(&mut rng, shape);
         let levels = 0..=draft.sheet().finish() as u64;
@@ -227,7 +190,12 @@ fn counts_of_trials() {
             draft.lines.len() as u64,
             draft.calibrations.iter().filter(|&&c| c > 0).count() as u64,
         );
-        let lists: usize = draft.lines.iter().map(|line| line.list.len()).sum();
+        // A started batch has one instrument.
+        let lists = draft.lines.iter().map(|line| match line.started() {
+            true => 1,
+            false => line.list.len(),
+        });
+        let lists: usize = lists.sum();
         for line in answers(&file(&draft), &journal).unwrap().lines() {
             let [refusal, passed, raises, bumps, ref rest @ ..] = numbers(line)[..] else {
                 panic!("{line}");
@@ -370,16 +338,17 @@ impl Digest {
     }
 }
 
-/// Where all calibrations are 0, every answer is what it was before there were
-/// any: the figure was taken then, from the same sheets without their line 2.
+/// Where all calibrations and all marks are 0, every answer is what it was before
+/// there were any: the figure was taken then, from the same sheets without their
+/// line 2 and without marks.
 #[test]
-fn without_calibrations_nothing_differs() {
+fn without_calibrations_and_marks_nothing_differs() {
     let mut rng = Rng::new(84);
     let mut digest = Digest(0xcbf2_9ce4_8422_2325);
     let mut failed = 0;
     for round in 0..1_500 {
         let shape = [gen::SMALL, gen::MEDIUM, gen::SMALL, gen::FULL][round % 4];
-        let draft = gen::draft(&mut rng, shape.uncalibrated());
+        let draft = gen::draft(&mut rng, shape.uncalibrated().waiting());
         let sheet = draft.sheet();
         let total = sheet.total();
         let journal = format!(
@@ -454,10 +423,12 @@ fn calibrations_are_often_bumped() {
 fn the_stack_asked_for() {
     let all: Vec<u32> = (1..=24).collect();
     let lines: Vec<(u32, u32, &[u32])> = (0..200).map(|b| (1 + b * 7, 1, &all[..])).collect();
-    let sheet = Draft::new(24, &lines).calibrated(&[240; 24]).render();
+    let draft = Draft::new(24, &lines).calibrated(&[240; 24]);
+    let sheet = draft.started(&[7, 150, 200]).render();
     assert_eq!(sheet.len(), LARGEST_SHEET);
-    let journal = "     2   200\n     1     9     1     1\n     3     1     2     1     2\n     4     1     2\n     5\n     6     0\n     \
-                   6 90000\n     7   200\n     8   200\n     5\n";
+    let journal = "     2   199\n     1     9     1     1\n     9   198\n     3     1     2     1     2\n     \
+                   4     1     2\n     5\n     6     0\n     6 90000\n     7   200\n     8   200\n     \
+                   5\n";
     let calls = move || {
         let (mut moves, mut buffer) = (vec![Move::default(); 200], vec![0; 1 << 18]);
         let done = [

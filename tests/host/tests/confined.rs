@@ -18,7 +18,7 @@ fn floor(sheet: &Sheet, group: &[u32], mut inside: impl FnMut(&Marks, &Marks) ->
     let marked = marks(group);
     let items = sheet.items();
     let confined = items.iter();
-    let confined = confined.filter(|item| inside(&marks(&item.list), &marked));
+    let confined = confined.filter(|item| inside(&marks(item.qualified()), &marked));
     let minutes: u32 = confined.map(|item| item.length).sum();
     sheet.longest().max(minutes.div_ceil(group.len() as u32))
 }
@@ -190,6 +190,7 @@ fn random_sheets() {
             batches: (10, 60),
             lengths: (1, 60),
             calibrations: 30,
+            started: true,
         };
         let sheet = gen::sheet(&mut rng, shape);
         let listing = planned(&sheet);

@@ -29,7 +29,7 @@ fn known<A: Answer>(sheet: &str, call: Filer<A>, answer: A, records: &[Move], wr
 fn known_answers() {
     let planned = SHEET.replace("30     1", "30     2");
     let balanced = Balanced {
-        length: 113,
+        length: 131,
         finish: 30,
         floor: 30,
         raises: 2,
@@ -39,7 +39,7 @@ fn known_answers() {
     };
     known(SHEET, balance, balanced, &[went(1, 1, 2)], &planned);
     let settled = Settled {
-        length: 113,
+        length: 131,
         finish: 30,
         moves: 1,
         records: 1,
@@ -50,16 +50,16 @@ fn known_answers() {
     // All on one, with its group; a place not given is filled in.
     let sheet = "     2     3
      0     0
-    10     1     1     1
-    10     0     1     1
-    10           1     1
+    10     1     0     1     1
+    10     0     0     1     1
+    10           0     1     1
 ";
     let written = sheet.replace("10     0", "10     1");
     let written = written.replace("10      ", "10     1");
     let mut group = [0; 24];
     group[0] = 1;
     let balanced = Balanced {
-        length: 2 * 13 + 3 * 25,
+        length: 2 * 13 + 3 * 31,
         finish: 30,
         floor: 30,
         level: 20,
@@ -69,7 +69,7 @@ fn known_answers() {
     };
     known(sheet, balance, balanced, &[], &written);
     let settled = Settled {
-        length: 2 * 13 + 3 * 25,
+        length: 2 * 13 + 3 * 31,
         finish: 30,
         ..Settled::default()
     };
@@ -89,16 +89,16 @@ fn known_answers() {
         };
         known(&sheet, settle, settled, &[], &sheet);
     }
-    let sheet = "     1     1\n     0\n  1440     1     1     1\n";
+    let sheet = "     1     1\n     0\n  1440     1     0     1     1\n";
     let balanced = Balanced {
-        length: 13 + 7 + 25,
+        length: 13 + 7 + 31,
         finish: 1440,
         floor: 1440,
         ..Balanced::default()
     };
     known(sheet, balance, balanced, &[], sheet);
     let settled = Settled {
-        length: 13 + 7 + 25,
+        length: 13 + 7 + 31,
         finish: 1440,
         ..Settled::default()
     };
@@ -111,10 +111,10 @@ fn known_answers() {
 fn known_settlings() {
     let unsettled = "     2     4
      0     0
-     2     2     1     2
-     4     1     2     2     1
-     5     1     2     2     1
-     2     2     2     1     2
+     2     2     0     1     2
+     4     1     0     2     2     1
+     5     1     0     2     2     1
+     2     2     0     2     1     2
 ";
     let mut group = [0; 24];
     group[..2].copy_from_slice(&[1, 2]);
@@ -137,20 +137,20 @@ fn known_settlings() {
     };
     let written = "     2     4
      0     0
-     2     2     1     2
-     4     2     2     2     1
-     5     1     2     2     1
-     2     1     2     1     2
+     2     2     0     1     2
+     4     2     0     2     2     1
+     5     1     0     2     2     1
+     2     1     0     2     1     2
 ";
     let records = [went(2, 1, 2), went(4, 2, 1)];
     known(unsettled, settle, settled, &records, written);
 
     let returning = "     3     4
      0     0     0
-     1     3     1     3
-     4     3     2     2     3
-     2     2     1     2
-     2     3     2     1     3
+     1     3     0     1     3
+     4     3     0     2     2     3
+     2     2     0     1     2
+     2     3     0     2     1     3
 ";
     let settled = Settled {
         length: returning.len(),
@@ -159,7 +159,7 @@ fn known_settlings() {
         records: 1,
         ..Settled::default()
     };
-    let written = returning.replace("2     3     2     1", "2     1     2     1");
+    let written = returning.replace("2     3     0     2     1", "2     1     0     2     1");
     known(returning, settle, settled, &[went(4, 3, 1)], &written);
 }
 
@@ -186,19 +186,20 @@ fn sound_files() {
         let mut rng = Rng::new(share);
         (0..4).map(|_| Case::from(kind.sheet(&mut rng))).collect()
     };
-    let met = compare(60, |share| match share {
+    let met = compare(66, |share| match share {
         0 => vec![
             Case::from(kinds::hard(0)),
             Case::from(kinds::hard_calibrated(0)),
+            Case::from(kinds::hard_started(0)),
         ],
-        1..=18 => of_kind(share),
-        19 => cases::largest(share, 20),
+        1..=24 => of_kind(share),
+        25 => cases::largest(share, 20),
         _ => cases::sound(share, 150),
     });
     println!("{}", met.summary());
-    assert_eq!((met.sheets, met.good), (2 + 18 * 4 + 20 + 40 * 150, 6_094));
+    assert_eq!((met.sheets, met.good), (3 + 24 * 4 + 20 + 40 * 150, 6_119));
     rooms_of_good_sheets(&met, 300);
-    assert!(met.empty >= 300 && met.largest >= 150);
+    assert!(met.empty >= 300 && met.largest >= 150 && met.started >= 2_500);
     assert!(met.grouped >= 2_500 && met.all >= 1_500);
     assert!(met.shifted >= 2_000 && met.moved >= 2_000);
     assert!(met.repeated >= 300 && met.different >= 1_500);
@@ -215,7 +216,7 @@ fn damaged_files() {
         _ => cases::damaged(share, 100),
     });
     println!("{}", met.summary());
-    assert!(met.sheets >= 10_000 && met.good >= 500);
+    assert!(met.sheets >= 10_000 && met.good >= 500 && met.started >= 200);
     for calls in [met.balanced, met.settled] {
         for number in [1, 2, 3, 4, 5, 10] {
             for count in calls[number].as_flattened() {
@@ -294,7 +295,7 @@ fn any_offset() {
         let own = file.len();
         // What would go on well as a sheet, and what would not.
         file.extend(match round % 3 {
-            0 => b"     1     1     1     1\n".as_slice(),
+            0 => b"     1     1     0     1     1\n".as_slice(),
             1 => b"\n\n\n\n\n\n\n\n\n",
             _ => b"999999999",
         });

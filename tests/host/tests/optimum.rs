@@ -6,7 +6,7 @@ use host::listing::{Listing, MOST};
 use host::{balance, plan, settle, Balanced, Settled};
 use second::gen::{self, Shape};
 use second::rng::Rng;
-use second::Draft;
+use second::{Draft, Line};
 
 fn listing(draft: &Draft) -> Listing {
     let mut buffer = vec![0; MOST];
@@ -15,9 +15,23 @@ fn listing(draft: &Draft) -> Listing {
     Listing::parse(&buffer[..hosted.length as usize]).expect("a listing in its columns")
 }
 
-/// The earliest finish of any permitted plan that calibrates as the sheet does.
+/// Where a batch may be: on its list, or on its place alone if it has started.
+fn open(line: &Line) -> &[u32] {
+    match line.started() {
+        true => line.place.as_slice(),
+        false => &line.list,
+    }
+}
+
+/// The earliest finish of any permitted plan that calibrates as the sheet does and
+/// leaves started batches put.
 fn optimum(draft: &Draft) -> u32 {
     least_finish(draft, 0, &mut calibrations(draft))
+}
+
+/// That of any plan at all on the lists, wherever batches have started.
+fn optimum_of_all(draft: &Draft) -> u32 {
+    optimum(&draft.clone().waiting())
 }
 
 /// With the first batches placed already, which makes these loads.
@@ -26,7 +40,7 @@ fn least_finish(draft: &Draft, placed: usize, loads: &mut [u32; 25]) -> u32 {
         return *loads.iter().max().unwrap();
     };
     let mut least = u32::MAX;
-    for &j in &line.list {
+    for &j in open(line) {
         loads[j as usize] += line.length;
         least = least.min(least_finish(draft, placed + 1, loads));
         loads[j as usize] -= line.length;
@@ -67,7 +81,7 @@ fn gains(draft: &Draft) -> bool {
     let mut batches = draft.lines.iter().enumerate();
     batches.any(|(i, line)| {
         let here = place(draft, i);
-        let mut others = line.list.iter().filter(|&&j| j != here);
+        let mut others = open(line).iter().filter(|&&j| j != here);
         others.any(|&j| loads[j as usize] + line.length < loads[here as usize])
     })
 }
@@ -103,6 +117,7 @@ fn led<A>(draft: &Draft, made: &Made<A>) -> Draft {
         let line = &mut left.lines[record.batch as usize - 1];
         assert_eq!(line.place, Some(record.from));
         assert_ne!(record.from, record.to);
+        assert!(!line.started(), "a started batch moves");
         assert!(line.list.contains(&record.to), "a permitted plan");
         line.place = Some(record.to);
     }
@@ -124,7 +139,7 @@ fn balance_laws(draft: &Draft) -> (Balanced, Draft) {
     assert!(group.is_sorted_by(|a, b| a < b) && rest.iter().all(|&j| j == 0));
     assert!(group.iter().all(|j| (1..=draft.instruments).contains(j)));
     let inside = |list: &[u32]| list.iter().all(|j| group.contains(j));
-    let confined = draft.lines.iter().filter(|line| inside(&line.list));
+    let confined = draft.lines.iter().filter(|line| inside(open(line)));
     let batches: u32 = confined.map(|line| line.length).sum();
     let own = calibrations(draft);
     let minutes = batches + group.iter().map(|&j| own[j as usize]).sum::<u32>();
@@ -157,7 +172,7 @@ fn plan_laws(draft: &Draft) -> (Balanced, Settled) {
     let (balanced, middle) = balance_laws(draft);
     let (settled, after) = settle_laws(&middle);
     let batches = after.lines.iter().enumerate();
-    let line = |(i, line): (usize, &second::Line)| [i as u32 + 1, place(&after, i), line.length];
+    let line = |(i, line): (usize, &Line)| [i as u32 + 1, place(&after, i), line.length];
     let both = Listing {
         finish: settled.finish,
         floor: balanced.floor,
@@ -200,12 +215,14 @@ fn small_sheets() {
     let mut rng = Rng::new(51);
     let (mut best, mut later, mut tight, mut loose, mut empty) = (0, 0, 0, 0, 0);
     let (mut settling, mut calibrated, mut only) = (0, 0, 0);
+    let (mut started, mut kept_from, mut beyond) = (0, 0, 0);
     for round in 0..20_000 {
         let shape = Shape {
             instruments: (1, 4),
             batches: (0, 7),
             lengths: [(1, 9), (1, 60), (1, 1440)][round % 3],
             calibrations: [9, 60, 240][round % 3],
+            started: true,
         };
         let draft = gen::draft(&mut rng, shape);
         let (balanced, settled, optimum) = compared(&draft);
@@ -229,15 +246,25 @@ fn small_sheets() {
             false => loose += 1,
         }
         settling += (settled.finish < balanced.finish) as usize;
+        if draft.lines.iter().any(Line::started) {
+            started += 1;
+            // Plans that move started batches may be better, and then they are no
+            // measure: even the floor may be above them.
+            let free = optimum_of_all(&draft);
+            kept_from += (free < optimum) as usize;
+            beyond += (free < balanced.floor) as usize;
+        }
     }
     println!(
         "finish: {best} best, {later} later, {settling} earlier by settling; floor: {tight} \
          tight, {loose} not; {empty} empty, {only} of them with calibrations; {calibrated} with \
-         calibrations"
+         calibrations; {started} with started batches, {kept_from} kept from a better plan, \
+         {beyond} with a floor above that"
     );
     let counts = [best, later, settling, tight, loose, empty, only];
     assert!(counts.into_iter().all(|count| count >= 200), "{counts:?}");
-    assert!(calibrated >= 8_000);
+    assert!(calibrated >= 8_000 && started >= 8_000);
+    assert!(kept_from >= 1_700 && beyond >= 1_200);
 }
 
 /// Lengths that are multiples of one number: how often balance is as late as the
@@ -246,13 +273,15 @@ fn small_sheets() {
 fn round_lengths() {
     let mut rng = Rng::new(53);
     for step in [2, 3, 5, 15] {
-        let (mut reached, mut kept, mut earlier, mut calibrated) = (0, 0, 0, 0);
+        let (mut reached, mut kept, mut earlier) = (0, 0, 0);
+        let (mut calibrated, mut started) = (0, 0);
         for round in 0..10_000 {
             let shape = Shape {
                 instruments: (2, 4),
                 batches: (2, 6),
                 lengths: (1, [2, 2, 3, 1440 / step][round % 4]),
                 calibrations: [2, 2, 3, 240 / step][round % 4],
+                started: round % 3 > 0,
             };
             let mut draft = gen::draft(&mut rng, shape);
             draft.lines.iter_mut().for_each(|line| line.length *= step);
@@ -265,15 +294,17 @@ fn round_lengths() {
                     reached += 1;
                     kept += (settled.finish == balanced.finish) as usize;
                     calibrated += draft.calibrations.iter().any(|&c| c > 0) as usize;
+                    started += draft.lines.iter().any(Line::started) as usize;
                 }
                 _ => earlier += 1,
             }
         }
         println!(
             "multiples of {step}: the bound reached {reached} times, {kept} after settling too, \
-             {calibrated} with calibrations, not {earlier} times"
+             {calibrated} with calibrations, {started} with started batches, not {earlier} times"
         );
         assert!(reached >= 50 && kept >= 50 && earlier >= 1_000 && calibrated >= 20);
+        assert!(started >= 43);
     }
 }
 
@@ -282,7 +313,7 @@ fn round_lengths() {
 #[test]
 fn equal_lengths() {
     let mut rng = Rng::new(54);
-    let (mut below, mut improved) = ([0; 2], [0; 2]);
+    let (mut below, mut improved, mut started) = ([0; 2], [0; 2], [0; 2]);
     for round in 0..16_000 {
         let calibrated = round % 2;
         let length = rng.within(1, [1440, 240][calibrated]);
@@ -291,6 +322,7 @@ fn equal_lengths() {
             batches: (1, 7),
             lengths: (length, length),
             calibrations: 0,
+            started: round % 4 < 2,
         };
         let mut draft = gen::draft(&mut rng, shape);
         if calibrated == 1 {
@@ -300,14 +332,17 @@ fn equal_lengths() {
         let (balanced, settled, optimum) = compared(&draft);
         assert_eq!((balanced.finish, settled.finish), (optimum, optimum));
         below[calibrated] += (balanced.floor < optimum) as usize;
-        improved[calibrated] += (optimum < standing(&draft)) as usize;
+        let better = optimum < standing(&draft);
+        improved[calibrated] += better as usize;
+        started[calibrated] += (better && draft.lines.iter().any(Line::started)) as usize;
     }
     println!(
-        "equal lengths, without and with calibrations: all best, {improved:?} improved, {below:?} \
-         with a floor below"
+        "equal lengths, without and with calibrations: all best, {improved:?} improved, {started:?} \
+         of them with started batches, {below:?} with a floor below"
     );
     assert!(below.into_iter().all(|count| count >= 1_000));
     assert!(improved.into_iter().all(|count| count >= 1_000));
+    assert!(started.into_iter().all(|count| count >= 300));
 }
 
 /// Calibrations count among the lengths: the bounds that the batches alone would
@@ -322,6 +357,7 @@ fn calibrations_count_in_the_bounds() {
             batches: (2, 6),
             lengths: (1, [1, 3][round % 2]),
             calibrations: 15,
+            started: round % 4 < 2,
         };
         let mut draft = gen::draft(&mut rng, shape);
         let step = rng.within(1, 6);

@@ -63,15 +63,29 @@ fn known_answers() {
         ("     2     4", "     0"),
         ("     2     4", "     6"),
         ("     5", "     0    30     0    30    30"),
+        // A started batch stays: the first one, moved back before it starts.
+        ("     4     1     1", "     0"),
+        ("     9     1", "     0"),
+        ("     9     1", "    11"),
+        ("     9     4", "     6"),
+        ("     2     1", "    11"),
+        ("     3     1     0", "    11"),
+        ("     4     1     0", "    11"),
+        ("     5", "     0    60     3    60     0"),
+        (
+            "     7     3",
+            "     0    50    50    20     4     6     1     1     1     3     1     2",
+        ),
+        ("     8     3", "     0    50           0     0"),
     ];
     let file = |lines: Vec<&str>| lines.join("\n") + "\n";
     let (calls, answers): (Vec<&str>, Vec<&str>) = lines.into_iter().unzip();
     assert_eq!(answer(SHEET, &file(calls)), Ok(file(answers)));
     let group = "     2     3
      0     0
-    10     1     1     1
-    10     0     1     1
-    10     1     1     1
+    10     1     0     1     1
+    10     0     0     1     1
+    10     1     0     1     1
 ";
     let plan = "     7     3\n     8     3\n";
     let answers = "     0    30    30    20     0     0     1     1     0
@@ -95,7 +109,7 @@ fn known_answers() {
     let answers = "     0  1440  1440     0     0     0     0     0
      0  1440           0     0
 ";
-    let longest = "     1     1\n     0\n  1440     0     1     1\n";
+    let longest = "     1     1\n     0\n  1440     0     0     1     1\n";
     let one = answer(longest, "     7     1\n     8     1\n");
     assert_eq!(one.unwrap(), answers);
 }
@@ -106,10 +120,10 @@ fn known_answers() {
 fn known_records() {
     let unsettled = "     2     4
      0     0
-     2     2     1     2
-     4     1     2     2     1
-     5     1     2     2     1
-     2     2     2     1     2
+     2     2     0     1     2
+     4     1     0     2     2     1
+     5     1     0     2     2     1
+     2     2     0     2     1     2
 ";
     let answers = "     0     9     2     9     4
      0     9     7     4     0     0     2     1     2     0
@@ -121,19 +135,19 @@ fn known_records() {
     // Batch 2 leaves and returns.
     let returning = "     3     4
      0     0     0
-     1     3     1     3
-     4     3     2     2     3
-     2     2     1     2
-     2     3     2     1     3
+     1     3     0     1     3
+     4     3     0     2     2     3
+     2     2     0     1     2
+     2     3     0     2     1     3
 ";
     let answers = "     0     5           3     1     4     3     1\n";
     assert_eq!(answer(returning, "     8     4\n").unwrap(), answers);
     // A balance with a record and a group.
     let again = "     2     3
      0     0
-     3     1     2     1     2
-     4     1     1     1
-     2     1     1     1
+     3     1     0     2     1     2
+     4     1     0     1     1
+     2     1     0     1     1
 ";
     let answers =
         "     0     6     5     2     2     2     2     1     2     1     1     1     2\n";
@@ -150,7 +164,10 @@ fn known_refusals() {
         (" ".into(), 1),
         ("     0\n".into(), 1),
         ("     9\n".into(), 1),
-        ("     9     3\n".into(), 1),
+        ("     9     3     1\n".into(), 1),
+        ("     9      \n".into(), 1),
+        ("    10\n".into(), 1),
+        ("    10     3\n".into(), 1),
         ("     7\n".into(), 1),
         ("     8\n".into(), 1),
         ("     7     3     3\n".into(), 1),
@@ -217,7 +234,7 @@ fn fitting(rng: &mut Rng, call: &mut Call) {
             fit(a);
             list.iter_mut().for_each(fit);
         }
-        Call::Withdraw { number } => fit(number),
+        Call::Withdraw { number } | Call::Start { number } => fit(number),
         Call::Move { number, instrument } => {
             fit(number);
             fit(instrument);
@@ -296,17 +313,17 @@ fn rooms_of_good_pairs(met: &Met, least: usize) {
 
 #[test]
 fn random_runs() {
-    let met = compare(154, |share| match share {
+    let met = compare(178, |share| match share {
         0..=3 => cases::hard(share, 1),
-        4..=63 => longer(share, cases::runs(share, 100)),
-        64..=113 => longer(share, cases::edits(share, 220)),
+        4..=75 => longer(share, cases::runs(share, 100)),
+        76..=135 => longer(share, cases::edits(share, 220)),
         _ => longer(share, cases::reviews_and_trials(share, 100)),
     });
     println!("{}", met.summary());
-    assert_eq!(met.pairs, 4 + 60 * 100 + 50 * 220 + 40 * 100);
+    assert_eq!(met.pairs, 4 + 72 * 100 + 60 * 220 + 42 * 100);
     rooms_of_good_pairs(&met, 2_500);
     let seen = &met.seen;
-    for kind in 1..=8 {
+    for kind in 1..=9 {
         assert!(seen.calls[kind][0] >= 6_000, "calls of kind {kind}");
     }
     for (kind, refusal) in [
@@ -314,10 +331,15 @@ fn random_runs() {
         (1, 4),
         (1, 7),
         (2, 6),
+        (2, 11),
         (3, 4),
         (3, 6),
+        (3, 11),
         (4, 5),
         (4, 6),
+        (4, 11),
+        (9, 6),
+        (9, 11),
         (6, 8),
         (7, 9),
         (8, 9),
@@ -332,7 +354,7 @@ fn random_runs() {
     assert!(seen.repeated >= 300 && seen.most_records >= 150);
     let trials = &seen.trials;
     assert_eq!(seen.calls[6][0], trials.passed + trials.failed);
-    assert!(trials.passed >= 75_000 && trials.worked >= 25_000);
+    assert!(trials.passed >= 75_000 && trials.worked >= 21_000);
     assert!(trials.failed >= 14_000);
     assert!(trials.partial >= 3_000 && trials.several >= 500);
     assert!(trials.most >= 200_000);
@@ -352,6 +374,7 @@ fn random_runs() {
     assert!(left.changed >= 15_000 && left.kept >= 5_000);
     assert!(left.empty >= 2_000 && left.full >= 800);
     assert!(left.calibrated >= 10_000);
+    assert!(left.started >= 150_000, "{}", left.started);
     assert!(left.unordered >= 400_000 && left.elsewhere >= 200_000);
 }
 
@@ -374,7 +397,7 @@ fn long_runs() {
     rooms_of_good_pairs(&met, 8);
     assert!(met.arguments.most_calls >= 2_000);
     assert!(met.arguments.most_bytes >= 1 << 17);
-    for kind in 1..=8 {
+    for kind in 1..=9 {
         assert!(met.seen.calls[kind][0] >= 1_600, "calls of kind {kind}");
     }
 }
@@ -446,6 +469,8 @@ fn every_byte() {
      7     3
      8     3
      6     0
+     9     2
+     4     2     1
 ";
     let sheet = SHEET.as_bytes();
     let met = compare_bytes(file.len() as u64, |at| {
@@ -467,7 +492,7 @@ fn every_byte() {
     println!("{}", met.summary());
     assert_eq!(met.pairs, file.len() * 37);
     good_and_bad(&met, 300, 3_000);
-    assert!((1..=10).all(|line| met.lines.contains(&line)));
+    assert!((1..=12).all(|line| met.lines.contains(&line)));
 }
 
 /// Every field of a journal left blank in turn: it is refused at its line, and
@@ -477,7 +502,7 @@ fn every_field_blank() {
     let mut judges = Judges::default();
     let mut rng = Rng::new(33);
     let mut met = Met::default();
-    let mut kinds = [0; 9];
+    let mut kinds = [0; 10];
     for _ in 0..200 {
         let (sheet, calls) = small(&mut rng);
         let file = journal(&calls);
@@ -500,17 +525,18 @@ fn every_field_blank() {
 /// ends in any order.
 #[test]
 fn random_bytes() {
-    let met = compare_bytes(60, |share| {
+    let met = compare_bytes(62, |share| {
         let mut rng = Rng::new(share);
         let pair = |k| {
             let (sheet, _) = small(&mut rng);
             let size = rng.below(60);
             let journal: Vec<u8> = match k % 4 {
                 0 => (0..size).map(|_| rng.next_u64() as u8).collect(),
-                1 => (0..size).map(|_| *rng.pick(b" 15678\n")).collect(),
+                1 => (0..size).map(|_| *rng.pick(b" 156789\n")).collect(),
                 2 => {
                     let fields = [
-                        "     1", "     2", "     5", "     6", "     7", "     8", "      ", "\n",
+                        "     1", "     2", "     5", "     6", "     7", "     8", "     9",
+                        "      ", "\n",
                     ];
                     let field = |_| *rng.pick(&fields);
                     (0..size / 6).map(field).collect::<String>().into()
@@ -525,6 +551,7 @@ fn random_bytes() {
                         "     8     2\n",
                         "     6     1\n",
                         "     2     1\n",
+                        "     9     1\n",
                         "     4     1     2\n",
                         "     1     9     1     1\n",
                         "     3     1     1     1\n",
@@ -533,6 +560,7 @@ fn random_bytes() {
                         "     6     1     1\n",
                         "     7\n",
                         "     8\n",
+                        "     9\n",
                         "     5",
                     ];
                     let line = |_| *rng.pick(&lines);
@@ -544,7 +572,7 @@ fn random_bytes() {
         (0..400).map(pair).collect()
     });
     println!("{}", met.summary());
-    assert_eq!(met.pairs, 60 * 400);
+    assert_eq!(met.pairs, 62 * 400);
     good_and_bad(&met, 2_000, 15_000);
     // Good ones with a call: only to them a buffer can be a byte short.
     assert!(met.calls[0][9][1] >= 1_200, "{:?}", met.calls[0][9]);

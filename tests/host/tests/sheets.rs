@@ -29,9 +29,9 @@ fn known_listings() {
     assert_eq!(answer(SHEET).unwrap(), first);
     let second = "     2     3
      0     0
-    10     1     1     1
-    10     0     1     1
-    10     1     1     1
+    10     1     0     1     1
+    10     0     0     1     1
+    10     1     0     1     1
 ";
     let listing = "    30    30    20     0     0           0
      1     1
@@ -44,20 +44,24 @@ fn known_listings() {
     assert_eq!(answer("     1     0\n     0\n").unwrap(), empty);
     let most = format!("    24     0\n{}\n", "     0".repeat(24));
     assert_eq!(answer(&most).unwrap(), empty);
-    let longest = "     1     1\n     0\n  1440     0     1     1\n";
+    let longest = "     1     1\n     0\n  1440     0     0     1     1\n";
     let listing = "  1440  1440     0     0     0           0\n     0\n     1     1  1440\n";
     assert_eq!(answer(longest).unwrap(), listing);
     // A blank place is the first listed.
-    let blank = SHEET.replace("0     1", "0      ");
+    let blank = ["30", "20", "10"]
+        .iter()
+        .fold(SHEET.to_string(), |text, length| {
+            text.replace(&format!("{length}     1"), &format!("{length}      "))
+        });
     assert_eq!(answer(&blank).unwrap(), first);
-    let blank = "     2     1\n     0     0\n    10           2     2     1\n";
+    let blank = "     2     1\n     0     0\n    10           0     2     2     1\n";
     let listing = "    10    10     0     0     0           0\n     0\n     1     2    10\n";
     assert_eq!(answer(blank).unwrap(), listing);
 }
 
 #[test]
 fn known_refusals() {
-    let line = "     1     0     1     1\n";
+    let line = "     1     0     0     1     1\n";
     let full = format!("     1   200\n     0\n{}", line.repeat(200));
     assert_eq!(answer(&full).unwrap().lines().count(), 202);
     for (sheet, refusal) in [
@@ -78,10 +82,15 @@ fn known_refusals() {
         ("           0\n".into(), (1, 1)),
         ("     1      \n".into(), (1, 1)),
         (SHEET.replace("    30", "      "), (1, 3)),
-        (SHEET.replace("20     1     1", "20     1      "), (1, 4)),
+        (SHEET.replace("20     1     0", "20     1      "), (1, 4)),
+        (SHEET.replace("1     0     1", "1     0      "), (1, 4)),
         (SHEET.replace("1     1\n", "1      \n"), (1, 4)),
         (SHEET.replace("     0     0", "           0"), (1, 2)),
         (SHEET.replace("     0     0", "     0      "), (1, 2)),
+        // Another mark than 0 or 1, and one of 1 beside no place.
+        (SHEET.replace("30     1     0", "30     1     2"), (1, 3)),
+        (SHEET.replace("20     1     0", "20     0     1"), (5, 4)),
+        (SHEET.replace("20     1     0", "20           1"), (5, 4)),
         // Five of them at the end.
         ("     1     1\n     0\n     5     ".into(), (1, 3)),
     ] {
@@ -92,30 +101,31 @@ fn known_refusals() {
     }
 }
 
-/// Every field left blank in turn: in the place that is 0, anywhere else it is
-/// refused at its line, and nothing is written.
+/// Every field left blank in turn: in the place that is 0, and refused where the
+/// batch has started; anywhere else it is refused at its line. Nothing is written
+/// then.
 #[test]
 fn every_field_blank() {
     let mut judge = Judge::new(plan);
-    let (mut taken, mut refused) = (0, 0);
+    let (mut taken, mut started, mut refused) = (0, 0, 0);
     for case in cases::sound(17, 150) {
         let file = case.sheet;
         let places = gen::places(&file);
         for at in gen::fields(&file) {
             let mut blank = file.clone();
             blank[at..at + 6].fill(b' ');
-            let due = if places.contains(&at) {
+            let line = 1 + file[..at].iter().filter(|&&b| b == b'\n').count();
+            let due = if places.contains(&at) && file[at + 11] == b'1' {
+                started += 1;
+                Due::Refused { refusal: 5, line }
+            } else if places.contains(&at) {
                 taken += 1;
                 let mut zero = String::from_utf8(file.clone()).unwrap();
                 zero.replace_range(at..at + 6, "     0");
                 Due::Text(answer(&zero).unwrap().into_bytes())
             } else {
                 refused += 1;
-                let ends = file[..at].iter().filter(|&&b| b == b'\n');
-                Due::Refused {
-                    refusal: 1,
-                    line: 1 + ends.count(),
-                }
+                Due::Refused { refusal: 1, line }
             };
             judge.call(&blank, MOST, &due).unwrap_or_else(|fault| {
                 let sheet = String::from_utf8_lossy(&blank);
@@ -123,8 +133,8 @@ fn every_field_blank() {
             });
         }
     }
-    println!("{taken} blank places, {refused} other blanks");
-    assert!(taken >= 1_000 && refused >= 10_000);
+    println!("{taken} blank places, {started} of started batches, {refused} other blanks");
+    assert!(taken >= 1_000 && started >= 500 && refused >= 10_000);
 }
 
 /// All good sheets met the buffer that just fits, and so many at least met every
@@ -148,14 +158,14 @@ fn sound_sheets() {
         let mut rng = Rng::new(run);
         (0..10).map(|_| Case::from(kind.sheet(&mut rng))).collect()
     };
-    let met = compare(160, |run| match run {
-        0..=35 => of_kind(run),
-        36..=39 => cases::largest(run, 25),
-        40..=49 => cases::reviews_and_trials(run, 100),
+    let met = compare(180, |run| match run {
+        0..=47 => of_kind(run),
+        48..=51 => cases::largest(run, 25),
+        52..=61 => cases::reviews_and_trials(run, 100),
         _ => cases::sound(run, 220),
     });
     println!("{}", met.summary());
-    assert_eq!(met.sheets, 36 * 10 + 4 * 25 + 10 * 100 + 110 * 220);
+    assert_eq!(met.sheets, 48 * 10 + 4 * 25 + 10 * 100 + 118 * 220);
     let plans = &met.plans;
     assert_eq!(plans.count, met.sheets);
     assert!(met.sheets >= 25_000);
@@ -163,10 +173,12 @@ fn sound_sheets() {
     assert!(plans.empty >= 1_000 && plans.small >= 10_000);
     assert!(plans.middle >= 2_000 && plans.largest >= 500);
     assert!(plans.given >= 100_000 && plans.open >= 100_000);
-    assert!(plans.blank >= 100_000);
+    assert!(plans.blank >= 85_000);
     assert!(plans.none >= 1_000 && plans.some >= 1_000 && plans.all >= 1_000);
     assert!(plans.shown >= 1_000);
     assert!(plans.calibrated >= 10_000 && plans.only >= 500 && plans.longer >= 2_000);
+    assert!(plans.some_started >= 5_000 && plans.all_started >= 2_000);
+    assert!(plans.started >= 100_000 && plans.held >= 50_000);
     assert!(plans.worked >= 1_000 && plans.moved >= 1_000);
     assert!(plans.steps >= 1_000 && plans.moves >= 10);
     assert!(met.same >= 5_000 && met.filled >= 5_000);
@@ -197,11 +209,12 @@ fn damaged_sheets() {
     }
     assert_eq!(met.lines[2], BTreeSet::from([1]));
     assert_eq!(met.lines[10], BTreeSet::from([2]));
-    // A blank place is taken, and hides no other fault of its line.
-    for number in [1, 3, 4] {
+    // A blank place is taken, and hides no other fault of its line; where the batch
+    // has started it is one.
+    for number in [1, 3, 4, 5] {
         assert!(met.at_blank[number] >= 300, "refusal {number} at a blank");
     }
-    assert_eq!(met.at_blank[5], 0);
+    assert!(met.plans.some_started >= 300 && met.plans.all_started >= 100);
     assert!(met.plans.calibrated >= 300);
 }
 

@@ -6,7 +6,7 @@ use host::cases;
 use host::due::Due;
 use host::journal::journal;
 use host::runs::{dues, Judge};
-use host::{run, text, write, LARGEST_SHEET, SHEET};
+use host::{run, text, write, LARGEST_SHEET, SHEET, STARTED};
 use second::rng::Rng;
 use second::{Call, Draft};
 
@@ -21,6 +21,7 @@ fn written(sheet: &str, journal: &str) -> String {
 #[test]
 fn known_sheets() {
     let planned = SHEET.replace("30     1", "30     2");
+    let around = STARTED.replace("10     1", "10     2");
     for (journal, due) in [
         ("", SHEET),
         // Calls that change nothing, and calls that are refused.
@@ -45,18 +46,18 @@ fn known_sheets() {
             "     1    15     2     2     1\n",
             "     2     4
      0     0
-    30     1     2     1     2
-    20     1     1     1
-    10     1     2     1     2
-    15     2     2     2     1
+    30     1     0     2     1     2
+    20     1     0     1     1
+    10     1     0     2     1     2
+    15     2     0     2     2     1
 ",
         ),
         (
             "     2     2\n",
             "     2     2
      0     0
-    30     1     2     1     2
-    10     1     2     1     2
+    30     1     0     2     1     2
+    10     1     0     2     1     2
 ",
         ),
         // The place is kept where it is listed.
@@ -64,9 +65,9 @@ fn known_sheets() {
             "     3     1     1     2\n     3     3     2     2     1\n",
             "     2     3
      0     0
-    30     2     1     2
-    20     1     1     1
-    10     1     2     2     1
+    30     2     0     1     2
+    20     1     0     1     1
+    10     1     0     2     2     1
 ",
         ),
         // Refused calls in between.
@@ -76,15 +77,27 @@ fn known_sheets() {
              1     7     2     2     1\n",
             "     2     4
      0     0
-    30     1     1     1
-    10     1     2     2     1
-  1440     2     1     2
-     7     2     2     2     1
+    30     1     0     1     1
+    10     1     0     2     2     1
+  1440     2     0     1     2
+     7     2     0     2     2     1
 ",
         ),
         (
             "     2     1\n     2     1\n     2     1\n",
             "     2     0\n     0     0\n",
+        ),
+        // A started batch keeps its list and its place.
+        ("     9     1\n", STARTED),
+        (
+            "     9     1\n     9     1\n     2     1\n     4     1     2\n     3     1     1     2\n",
+            STARTED,
+        ),
+        ("     9     1\n     7     3\n", &around),
+        ("     9     1\n     8     3\n", &around),
+        (
+            "     8     3\n     9     1\n     4     1     1\n",
+            &planned.replace("30     2     0", "30     2     1"),
         ),
     ] {
         assert_eq!(written(SHEET, journal), due, "{journal}");
@@ -92,17 +105,17 @@ fn known_sheets() {
     // Places not given are filled in, and lists keep their order.
     let open = "    12     4
      0     0     0     0     0     0     0     0     0     0     0     0
-     5           2    11     2
-    40     0     3     3     2     1
-     7     2     2    12     2
-  1440     9     1     9
+     5           0     2    11     2
+    40     0     0     3     3     2     1
+     7     2     0     2    12     2
+  1440     9     0     1     9
 ";
     let filled = "    12     4
      0     0     0     0     0     0     0     0     0     0     0     0
-     5    11     2    11     2
-    40     3     3     3     2     1
-     7     2     2    12     2
-  1440     9     1     9
+     5    11     0     2    11     2
+    40     3     0     3     3     2     1
+     7     2     0     2    12     2
+  1440     9     0     1     9
 ";
     assert_eq!(written(open, ""), filled);
     assert_eq!(written(filled, ""), filled);
@@ -121,9 +134,9 @@ fn known_sheets() {
     let journal = "     2     1\n     1    15     2     2     1\n     4     2     2\n     3     1     1     2\n";
     let left = "     2     3
    240     7
-    20     2     1     2
-    10     2     2     1     2
-    15     2     2     2     1
+    20     2     0     1     2
+    10     2     0     2     1     2
+    15     2     0     2     2     1
 ";
     assert_eq!(written(&calibrated, journal), left);
     // The first instrument is calibrated for so long that nothing goes there.
@@ -131,17 +144,17 @@ fn known_sheets() {
     // Balance leaves this sheet as it is, and settle does not.
     let unsettled = "     2     4
      0     0
-     2     2     1     2
-     4     1     2     2     1
-     5     1     2     2     1
-     2     2     2     1     2
+     2     2     0     1     2
+     4     1     0     2     2     1
+     5     1     0     2     2     1
+     2     2     0     2     1     2
 ";
     let settled = "     2     4
      0     0
-     2     2     1     2
-     4     2     2     2     1
-     5     1     2     2     1
-     2     1     2     1     2
+     2     2     0     1     2
+     4     2     0     2     2     1
+     5     1     0     2     2     1
+     2     1     0     2     1     2
 ";
     assert_eq!(written(unsettled, "     7     4\n"), unsettled);
     assert_eq!(written(unsettled, "     8     3\n"), unsettled);
@@ -151,7 +164,7 @@ fn known_sheets() {
 /// A sheet of 200 batches takes no more, but one for another.
 #[test]
 fn a_full_sheet() {
-    let line = "     1     0     1     1\n";
+    let line = "     1     0     0     1     1\n";
     let filled = line.replace("1     0", "1     1");
     let file = |lines: String| format!("     1   200\n   240\n{lines}");
     let full = file(line.repeat(200));
@@ -171,7 +184,7 @@ fn a_full_sheet() {
 /// as large, by requalifying all of one that is small, balanced and settled.
 #[test]
 fn the_largest() {
-    assert_eq!(LARGEST_SHEET, 32_758);
+    assert_eq!(LARGEST_SHEET, 33_958);
     let mut judge = Judge::new(write);
     let all: Vec<u64> = (1..=24).rev().collect();
     let most: Vec<u32> = (1..=24).rev().collect();
@@ -180,6 +193,7 @@ fn the_largest() {
         number,
         list: all.clone(),
     };
+    let start = |number| Call::Start { number };
     let add = Call::Add {
         length: 1440,
         list: all.clone(),
@@ -191,6 +205,7 @@ fn the_largest() {
         (draft(200, &[24]), (1..=200).map(requalify).collect()),
         (draft(200, &most), vec![Call::Balance { entries: 200 }]),
         (draft(200, &most), vec![Call::Settle { entries: 200 }]),
+        (draft(200, &most), (1..=200).map(start).collect()),
     ] {
         let (sheet, journal) = (sheet.render(), journal(&calls));
         let due = &dues(&sheet, &journal)[1];

@@ -9,10 +9,16 @@ pub struct Line {
     /// The place field: an instrument, 0, or nothing, which leaves its columns
     /// blank. With 0 or nothing the choice is the reader's.
     pub place: Option<u32>,
+    /// 1 where the batch has started, and otherwise 0.
+    pub mark: u32,
     pub list: Vec<u32>,
 }
 
 impl Line {
+    pub fn started(&self) -> bool {
+        self.mark == 1
+    }
+
     /// The instrument given, where one is.
     pub fn given(&self) -> Option<u32> {
         self.place.filter(|&place| place != 0)
@@ -28,12 +34,13 @@ pub struct Draft {
 }
 
 impl Draft {
-    /// Lines by length, place and list, every place as a number, and every
-    /// calibration 0.
+    /// Lines by length, place and list, every place as a number, every mark 0, and
+    /// every calibration 0.
     pub fn new(instruments: u32, lines: &[(u32, u32, &[u32])]) -> Draft {
         let line = |&(length, place, list): &(u32, u32, &[u32])| Line {
             length,
             place: Some(place),
+            mark: 0,
             list: list.to_vec(),
         };
         Draft {
@@ -47,6 +54,35 @@ impl Draft {
     pub fn calibrated(mut self, calibrations: &[u32]) -> Draft {
         self.calibrations = calibrations.to_vec();
         self
+    }
+
+    /// The same with these batches started, by number.
+    pub fn started(mut self, numbers: &[usize]) -> Draft {
+        for &number in numbers {
+            self.lines[number - 1].mark = 1;
+        }
+        self
+    }
+
+    /// The same with every batch started.
+    pub fn all_started(mut self) -> Draft {
+        self.lines.iter_mut().for_each(|line| line.mark = 1);
+        self
+    }
+
+    /// The same with no batch started.
+    pub fn waiting(mut self) -> Draft {
+        self.lines.iter_mut().for_each(|line| line.mark = 0);
+        self
+    }
+
+    /// The same with no batch started, but every one that had qualified only on
+    /// its place.
+    pub fn pinned(mut self) -> Draft {
+        for line in self.lines.iter_mut().filter(|line| line.started()) {
+            line.list = line.given().into_iter().collect();
+        }
+        self.waiting()
     }
 
     /// The same with every place left blank.
@@ -66,7 +102,7 @@ impl Draft {
         put_line(&mut out, &calibrations);
         for line in &self.lines {
             let count = line.list.len() as u32;
-            let mut fields = vec![Some(line.length), line.place, Some(count)];
+            let mut fields = vec![Some(line.length), line.place, Some(line.mark), Some(count)];
             fields.extend(line.list.iter().copied().map(Some));
             put_line(&mut out, &fields);
         }
@@ -86,6 +122,11 @@ impl Draft {
                     .shift(i as u64 + 1, place as u64)
                     .expect("a listed place");
             }
+            assert!(line.mark <= 1, "a sound mark");
+            if line.started() {
+                assert!(line.given().is_some(), "started, and no place is given");
+                sheet.start(i as u64 + 1).expect("a batch to start");
+            }
         }
         sheet
     }
@@ -103,6 +144,7 @@ impl From<&Sheet> for Draft {
                 .map(|b| Line {
                     length: b.length,
                     place: Some(b.place),
+                    mark: b.started as u32,
                     list: b.list.clone(),
                 })
                 .collect(),

@@ -13,6 +13,8 @@ pub struct Shape {
     pub lengths: (u32, u32),
     /// The longest calibration; with 0 none is drawn.
     pub calibrations: u32,
+    /// Whether batches may have started.
+    pub started: bool,
 }
 
 impl Shape {
@@ -20,6 +22,14 @@ impl Shape {
     pub fn uncalibrated(self) -> Shape {
         Shape {
             calibrations: 0,
+            ..self
+        }
+    }
+
+    /// The same without a started batch.
+    pub fn waiting(self) -> Shape {
+        Shape {
+            started: false,
             ..self
         }
     }
@@ -31,6 +41,7 @@ pub const SMALL: Shape = Shape {
     batches: (0, 6),
     lengths: (1, 9),
     calibrations: 9,
+    started: true,
 };
 
 /// Large enough for long chains, small enough to watch every step.
@@ -39,6 +50,7 @@ pub const MEDIUM: Shape = Shape {
     batches: (0, 30),
     lengths: (1, 60),
     calibrations: 60,
+    started: true,
 };
 
 /// Anything within the limits.
@@ -47,6 +59,7 @@ pub const FULL: Shape = Shape {
     batches: (0, 200),
     lengths: (1, 1440),
     calibrations: Sheet::CALIBRATION,
+    started: true,
 };
 
 /// As large as the limits allow.
@@ -55,6 +68,7 @@ pub const LARGE: Shape = Shape {
     batches: (200, 200),
     lengths: (1, 1440),
     calibrations: Sheet::CALIBRATION,
+    started: true,
 };
 
 /// A sound list of instruments, in any order.
@@ -81,8 +95,26 @@ pub fn calibrations(rng: &mut Rng, m: u32, longest: u32) -> Vec<u32> {
     some.collect()
 }
 
-/// A sound draft: how lists, lengths, places and calibrations lean differs from
-/// one to the next.
+/// Start none of the lines' batches, all, half of them or few. One without a
+/// place given gets one of its list.
+pub fn start(rng: &mut Rng, lines: &mut [Line]) {
+    let kind = rng.below(6);
+    for line in lines {
+        let starts = match kind {
+            0 | 1 => false,
+            2 => true,
+            3 => rng.once_in(2),
+            _ => rng.once_in(5),
+        };
+        if starts {
+            line.mark = 1;
+            line.place = line.given().or_else(|| Some(*rng.pick(&line.list)));
+        }
+    }
+}
+
+/// A sound draft: how lists, lengths, places, calibrations and marks lean differs
+/// from one to the next.
 pub fn draft(rng: &mut Rng, shape: Shape) -> Draft {
     let m = rng.within(shape.instruments.0, shape.instruments.1);
     let n = rng.within(shape.batches.0, shape.batches.1);
@@ -117,13 +149,18 @@ pub fn draft(rng: &mut Rng, shape: Shape) -> Draft {
         Line {
             length,
             place,
+            mark: 0,
             list,
         }
     });
-    let lines = lines.collect();
+    let mut lines: Vec<Line> = lines.collect();
+    let calibrations = calibrations(rng, m, shape.calibrations);
+    if shape.started {
+        start(rng, &mut lines);
+    }
     Draft {
         instruments: m,
-        calibrations: calibrations(rng, m, shape.calibrations),
+        calibrations,
         lines,
     }
 }
@@ -142,7 +179,7 @@ const EDGES: [u32; 19] = [
 pub fn damage(rng: &mut Rng, file: &mut Vec<u8>) {
     const BYTES: [u8; 14] = *b" 0123459\n\t\r-x\0";
     let len = file.len() as u64;
-    match rng.below(8) {
+    match rng.below(10) {
         0 => file.truncate(rng.below(len + 1) as usize),
         1 => {
             for _ in 0..rng.within(1, 7) {
@@ -164,6 +201,25 @@ pub fn damage(rng: &mut Rng, file: &mut Vec<u8>) {
         5 if len > 0 => {
             let byte = *rng.pick(&BYTES);
             file[rng.below(len) as usize] = byte;
+        }
+        6 if !places(file).is_empty() => {
+            // Another mark, and often no place or a bad length beside it.
+            let at = *rng.pick(&places(file));
+            let texts = [
+                b"     0", b"     1", b"     1", b"     2", b"     9", b"      ",
+            ];
+            let mark = *rng.pick(&texts);
+            if let Some(field) = file.get_mut(at + 6..at + 12) {
+                field.copy_from_slice(mark);
+            }
+            if rng.once_in(2) {
+                let none = *rng.pick(&[b"     0", b"      "]);
+                file[at..at + 6].copy_from_slice(none);
+            }
+            if rng.once_in(4) {
+                let length = *rng.pick(&[b"     0", b"  1441"]);
+                file[at - 6..at].copy_from_slice(length);
+            }
         }
         _ => {
             // Another number in some field, or blanks.
@@ -202,19 +258,25 @@ pub fn places(file: &[u8]) -> Vec<usize> {
     starts.filter(|at| at + 6 <= file.len()).collect()
 }
 
-/// How many of these are left blank.
+/// Where the marks start, one field after the places.
+pub fn marks(file: &[u8]) -> Vec<usize> {
+    let starts = places(file).into_iter().map(|at| at + 6);
+    starts.filter(|at| at + 6 <= file.len()).collect()
+}
+
+/// How many of the places are left blank.
 pub fn blank_places(file: &[u8]) -> usize {
     let blank = |&at: &usize| file[at..at + 6] == *b"      ";
     places(file).into_iter().filter(blank).count()
 }
 
 /// An accepted file with every place that is 0 or blank filled in: it gets the
-/// columns of the first listed instrument, which stand two fields further on.
+/// columns of the first listed instrument, which stand three fields further on.
 pub fn with_places(file: &[u8]) -> Vec<u8> {
     let mut filled = file.to_vec();
     for at in places(file) {
         if matches!(&file[at..at + 6], b"     0" | b"      ") {
-            filled.copy_within(at + 12..at + 18, at);
+            filled.copy_within(at + 18..at + 24, at);
         }
     }
     filled
@@ -266,7 +328,7 @@ pub fn calls(rng: &mut Rng, m: u32, n: u32, longest: u32, count: usize) -> Vec<C
     for _ in 0..count {
         let usual = rng.below(n + 2);
         let number = edge_or(rng, usual);
-        calls.push(match rng.below(13) {
+        calls.push(match rng.below(14) {
             0..=2 => {
                 n = (n + 1).min(Sheet::BATCHES as u64);
                 let usual = rng.within(1, longest) as u64;
@@ -300,9 +362,10 @@ pub fn calls(rng: &mut Rng, m: u32, n: u32, longest: u32, count: usize) -> Vec<C
             11 => Call::Balance {
                 entries: call_entries(rng, n),
             },
-            _ => Call::Settle {
+            12 => Call::Settle {
                 entries: call_entries(rng, n),
             },
+            _ => Call::Start { number },
         });
     }
     calls
@@ -327,6 +390,7 @@ pub fn hard(seed: u64) -> Sheet {
         lines.push(Line {
             length,
             place: Some(place),
+            mark: 0,
             list: list.to_vec(),
         });
     };
@@ -353,7 +417,20 @@ pub fn hard(seed: u64) -> Sheet {
     .sheet()
 }
 
-/// The same with calibrations in the stead of the batches that cannot leave. To
+/// The same with every long batch that cannot leave qualified on all instruments,
+/// and started: nothing that is answered differs.
+pub fn hard_started(seed: u64) -> Sheet {
+    let mut draft = Draft::from(&hard(seed));
+    for line in &mut draft.lines {
+        if line.list.len() == 1 {
+            line.list = (1..=Sheet::INSTRUMENTS).collect();
+            line.mark = 1;
+        }
+    }
+    draft.sheet()
+}
+
+/// The hard shape with calibrations in the stead of the batches that cannot leave. To
 /// reach a calibration an instrument must first bump off all else.
 pub fn hard_calibrated(seed: u64) -> Sheet {
     let mut rng = Rng::new(seed);

@@ -1,5 +1,6 @@
 //! Planning (document 01, "Planning"): balance, and settling after it (document
-//! 02, C-14). Finish, longest and what is confined count calibrations (C-16).
+//! 02, C-14). Finish, longest and what is confined count calibrations (C-16); a
+//! started batch is confined where it is (C-17).
 
 use crate::moves::{judge_entries, records, Move};
 use crate::settle::settle;

@@ -1,6 +1,6 @@
 //! From a file's bytes to a sheet (document 01, "The sheet"; document 02, C-11
-//! for a place left blank, C-16 for line 2): from the front, and the first fault
-//! decides.
+//! for a place left blank, C-16 for line 2, C-17 for the mark): from the front,
+//! and the first fault decides.
 
 use crate::sheet::{Batch, Refusal, Sheet};
 
@@ -61,13 +61,18 @@ fn calibrations(rest: &mut &[u8], m: u32) -> Result<Vec<u32>, Refusal> {
 
 /// A batch's line, on a sheet of `m` instruments. A number is judged before
 /// the next field is read, but the place only after the line's LF. A place
-/// left blank is place 0.
+/// left blank is place 0, which a started batch may not have.
 fn batch(rest: &mut &[u8], m: u32) -> Result<Batch, Refusal> {
     let length = number(rest)?;
     if !(1..=Sheet::LENGTH).contains(&length) {
         return Err(Refusal::Length);
     }
     let place = field(rest)?.unwrap_or(0);
+    let mark = number(rest)?;
+    if mark > 1 {
+        return Err(Refusal::Form);
+    }
+    let started = mark == 1;
     let count = number(rest)?;
     if !(1..=m).contains(&count) {
         return Err(Refusal::List);
@@ -81,7 +86,11 @@ fn batch(rest: &mut &[u8], m: u32) -> Result<Batch, Refusal> {
         list.push(instrument);
     }
     line_end(rest)?;
-    let place = if place == 0 { list[0] } else { place };
+    let place = if place == 0 && !started {
+        list[0]
+    } else {
+        place
+    };
     if !list.contains(&place) {
         return Err(Refusal::Place);
     }
@@ -89,6 +98,7 @@ fn batch(rest: &mut &[u8], m: u32) -> Result<Batch, Refusal> {
         length,
         list,
         place,
+        started,
     })
 }
 

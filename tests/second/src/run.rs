@@ -1,5 +1,5 @@
 //! Calls one after the other on one sheet (document 01, "Runs"; document 02,
-//! C-14: balance and settle stand for planning).
+//! C-14: balance and settle stand for planning, C-17: starting a batch).
 
 use crate::plan::{balance, Balanced};
 use crate::settle::{review, settle, Review, Settled};
@@ -18,6 +18,7 @@ pub enum Call {
     Trial { level: u64 },
     Balance { entries: u64 },
     Settle { entries: u64 },
+    Start { number: u64 },
 }
 
 #[derive(Clone, Debug, PartialEq, Eq)]
@@ -44,6 +45,7 @@ pub fn apply(sheet: &mut Sheet, call: &Call) -> Answer {
         Call::Trial { level } => trial(sheet, *level).map(Answer::Trial),
         Call::Balance { entries } => balance(sheet, *entries).map(Answer::Balance),
         Call::Settle { entries } => settle(sheet, *entries).map(Answer::Settle),
+        Call::Start { number } => sheet.start(*number).map(|()| Answer::Done),
     };
     answer.unwrap_or_else(Answer::Refused)
 }

@@ -1,6 +1,7 @@
 //! Who gains, review, and settling (document 01, "Loads and settling"; document
 //! 02, C-14 for settling as a call). Calibrations are in the loads; as batches
-//! they would have nowhere else to go, so none ever gains or moves.
+//! they would have nowhere else to go, so none ever gains or moves; nor does a
+//! started batch (C-17).
 
 use std::cmp::Reverse;
 
@@ -57,7 +58,8 @@ pub fn settle(sheet: &mut Sheet, entries: u64) -> Result<Settled, Refusal> {
 
 /// The instruments that a batch could go to.
 fn others(batch: &Batch) -> impl Iterator<Item = u32> + '_ {
-    batch.list.iter().copied().filter(|&j| j != batch.place)
+    let qualified = batch.qualified().iter().copied();
+    qualified.filter(|&j| j != batch.place)
 }
 
 fn gains(batch: &Batch, loads: &[u32]) -> bool {

@@ -1,5 +1,7 @@
 //! The sheet and its edits (document 01, "The sheet" and "Refusals"; document 02,
-//! C-16 for calibrations).
+//! C-16 for calibrations, C-17 for started batches).
+
+use std::slice;
 
 /// Why a call is refused; the discriminant is the documents' number.
 #[derive(Clone, Copy, Debug, PartialEq, Eq)]
@@ -25,6 +27,8 @@ pub enum Refusal {
     Buffer = 9,
     /// Calibration out of range.
     Calibration = 10,
+    /// The batch has started.
+    Started = 11,
 }
 
 impl Refusal {
@@ -40,6 +44,19 @@ pub struct Batch {
     /// The qualified instruments, in the order in which they were listed.
     pub list: Vec<u32>,
     pub place: u32,
+    pub started: bool,
+}
+
+impl Batch {
+    /// The instruments that it counts as qualified on: those of its list, or its
+    /// place alone once it has started.
+    pub fn qualified(&self) -> &[u32] {
+        if self.started {
+            slice::from_ref(&self.place)
+        } else {
+            &self.list
+        }
+    }
 }
 
 /// Instruments with their calibrations, and batches, within the limits, every
@@ -109,6 +126,7 @@ impl Sheet {
                     length,
                     list: vec![j],
                     place: j,
+                    started: false,
                 });
             }
         }
@@ -148,10 +166,10 @@ impl Sheet {
         self.batches.iter().map(|b| b.place).collect()
     }
 
-    /// Minutes of the batches whose whole list lies in the group, and of the
-    /// calibrations in it.
+    /// Minutes of the batches that are qualified on instruments of the group
+    /// alone, and of the calibrations in it.
     pub fn confined(&self, group: &[u32]) -> u32 {
-        let inside = |b: &&Batch| b.list.iter().all(|j| group.contains(j));
+        let inside = |b: &&Batch| b.qualified().iter().all(|j| group.contains(j));
         let batches = self.batches.iter().filter(inside).map(|b| b.length);
         let calibrations = group.iter().map(|&j| self.calibrations[at(j)]);
         batches.chain(calibrations).sum()
@@ -170,20 +188,21 @@ impl Sheet {
             length: length as u32,
             place: list[0],
             list,
+            started: false,
         });
         Ok(())
     }
 
     /// Withdraw a batch; later ones move down by one.
     pub fn withdraw(&mut self, number: u64) -> Result<(), Refusal> {
-        let index = self.index(number)?;
+        let index = self.waiting(number)?;
         self.batches.remove(index);
         Ok(())
     }
 
     /// Give a batch another list; it stays where it is if that is listed.
     pub fn requalify(&mut self, number: u64, list: &[u64]) -> Result<(), Refusal> {
-        let index = self.index(number)?;
+        let index = self.waiting(number)?;
         let list = self.judge_list(list)?;
         let batch = &mut self.batches[index];
         if !list.contains(&batch.place) {
@@ -195,18 +214,30 @@ impl Sheet {
 
     /// Move a batch to an instrument of its list.
     pub fn shift(&mut self, number: u64, instrument: u64) -> Result<(), Refusal> {
-        let index = self.index(number)?;
+        let index = self.waiting(number)?;
         let batch = &mut self.batches[index];
         let listed = batch.list.iter().find(|&&j| j as u64 == instrument);
         batch.place = *listed.ok_or(Refusal::Place)?;
         Ok(())
     }
 
-    fn index(&self, number: u64) -> Result<usize, Refusal> {
+    /// Start a batch where it is; from then on it stays there.
+    pub fn start(&mut self, number: u64) -> Result<(), Refusal> {
+        let index = self.waiting(number)?;
+        self.batches[index].started = true;
+        Ok(())
+    }
+
+    /// The index of a batch that may be edited.
+    fn waiting(&self, number: u64) -> Result<usize, Refusal> {
         if !(1..=self.batches.len() as u64).contains(&number) {
             return Err(Refusal::NoBatch);
         }
-        Ok(number as usize - 1)
+        let index = number as usize - 1;
+        if self.batches[index].started {
+            return Err(Refusal::Started);
+        }
+        Ok(index)
     }
 
     fn judge_list(&self, list: &[u64]) -> Result<Vec<u32>, Refusal> {

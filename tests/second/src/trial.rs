@@ -1,5 +1,6 @@
 //! One trial at a level, act by act (document 01, "One trial at a level"; document
-//! 02, C-16: calibrations take part as batches).
+//! 02, C-16: calibrations take part as batches, C-17: started batches as those
+//! qualified only where they are).
 
 use crate::sheet::{at, Batch, Refusal, Sheet};
 
@@ -125,8 +126,8 @@ impl<'a> State<'a> {
     /// What a batch without a place does: bump if able, else raise.
     fn batch_act(&self, batch: usize) -> Option<Act> {
         let height = self.batch_heights[batch];
-        let list = self.items[batch].list.iter();
-        let ends = list.filter(|&&j| j != self.places[batch]);
+        let qualified = self.items[batch].qualified().iter();
+        let ends = qualified.filter(|&&j| j != self.places[batch]);
         let ends = ends.map(|&j| (j, self.instrument_heights[at(j)]));
         // The list is in any order.
         let below = ends.clone().filter(|&(_, end)| height == end + 1).min();
@@ -209,7 +210,7 @@ impl<'a> State<'a> {
         loop {
             let placed = self.items.iter().zip(&self.places);
             let inside = placed.filter(|(_, place)| group.contains(place));
-            let reached: Vec<u32> = inside.flat_map(|(b, _)| b.list.iter().copied()).collect();
+            let reached: Vec<u32> = inside.flat_map(|(b, _)| b.qualified().to_vec()).collect();
             let size = group.len();
             group.extend(reached);
             group.sort();

@@ -75,9 +75,9 @@ fn a_calibration_drives_a_batch_away() {
     assert_eq!((answer.loads, answer.gains), (vec![40, 40], None));
     let text = "     2     3
     20     0
-    30     2     2     1     2
-    20     1     1     1
-    10     2     2     1     2
+    30     2     0     2     1     2
+    20     1     0     1     1
+    10     2     0     2     1     2
 ";
     assert_eq!(write(&sheet), text.as_bytes());
 }

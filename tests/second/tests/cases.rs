@@ -4,9 +4,9 @@ use second::*;
 
 const P1: &[u8] = b"     2     3
      0     0
-    30     1     2     1     2
-    20     1     1     1
-    10     1     2     1     2
+    30     1     0     2     1     2
+    20     1     0     1     1
+    10     1     0     2     1     2
 ";
 
 const P1_LISTING: &[u8] = b"    30    30     0     2     2           0
@@ -209,9 +209,9 @@ fn p9_zeros() {
     assert!(read(b"     1     0\n     0\n").is_ok());
     assert_eq!(refused(b"     1     0\n    07\n"), (1, 2));
     assert_eq!(refused(b"     1     0\n    00\n"), (1, 2));
-    let line = b"     1     1\n     0\n     5    00     1     1\n";
+    let line = b"     1     1\n     0\n     5    00     0     1     1\n";
     assert_eq!(refused(line), (1, 3));
-    let line = b"     1     1\n     0\n     5     0     1     1\n";
+    let line = b"     1     1\n     0\n     5     0     0     1     1\n";
     assert_eq!(read(line).unwrap().places(), [1]);
 }
 
@@ -219,7 +219,10 @@ fn p9_zeros() {
 fn a_blank_place_is_place_0() {
     // All three of the first case's places are the first listed.
     let text = std::str::from_utf8(P1).unwrap();
-    let blank = text.replace("0     1", "0      ");
+    let lengths = ["30", "20", "10"];
+    let blank = lengths.iter().fold(text.to_string(), |text, length| {
+        text.replace(&format!("{length}     1"), &format!("{length}      "))
+    });
     assert_eq!(blank.len(), P1.len());
     assert_eq!(read(blank.as_bytes()), read(P1));
     assert_eq!(program(blank.as_bytes()), P1_LISTING);
@@ -228,12 +231,12 @@ fn a_blank_place_is_place_0() {
 
     // Lines for a sheet of three instruments, and the places they come to.
     for (line, place) in [
-        ("     5           1     2\n", 2),
-        ("     5           2     3     1\n", 3),
-        ("     5           3     2     3     1\n", 2),
-        ("  1440           3     1     2     3\n", 1),
-        ("     5     0     2     3     1\n", 3),
-        ("     5     1     2     3     1\n", 1),
+        ("     5           0     1     2\n", 2),
+        ("     5           0     2     3     1\n", 3),
+        ("     5           0     3     2     3     1\n", 2),
+        ("  1440           0     3     1     2     3\n", 1),
+        ("     5     0     0     2     3     1\n", 3),
+        ("     5     1     0     2     3     1\n", 1),
     ] {
         let file = format!("     3     1\n     0     0     0\n{line}");
         let sheet = read(file.as_bytes()).unwrap();
@@ -242,9 +245,9 @@ fn a_blank_place_is_place_0() {
     // Each line by itself.
     let file = b"     3     3
      0     0     0
-     5           2     3     1
-     6     1     2     3     1
-     7     0     2     2     1
+     5           0     2     3     1
+     6     1     0     2     3     1
+     7     0     0     2     2     1
 ";
     assert_eq!(read(file).unwrap().places(), [3, 1, 2]);
 }
@@ -258,27 +261,29 @@ fn a_blank_is_refused_elsewhere() {
         ("     1     0\n      \n", 2),
         ("     2     0\n           0\n", 2),
         ("     2     0\n   240      \n", 2),
-        ("     1     1\n     0\n           1     1     1\n", 3),
-        ("     1     1\n     0\n     5     1           1\n", 3),
-        ("     1     1\n     0\n     5                 1\n", 3),
-        ("     1     1\n     0\n     5     1     1      \n", 3),
-        ("     1     1\n     0\n     5           1      \n", 3),
+        ("     1     1\n     0\n           1     0     1     1\n", 3),
+        ("     1     1\n     0\n     5     1           1     1\n", 3),
+        ("     1     1\n     0\n     5                 1     1\n", 3),
+        ("     1     1\n     0\n     5     1     0           1\n", 3),
+        ("     1     1\n     0\n     5           0           1\n", 3),
+        ("     1     1\n     0\n     5     1     0     1      \n", 3),
+        ("     1     1\n     0\n     5           0     1      \n", 3),
         (
-            "     2     1\n     0     0\n     5     1     2           1\n",
+            "     2     1\n     0     0\n     5     1     0     2           1\n",
             3,
         ),
         (
-            "     2     1\n     0     0\n     5     1     2     1      \n",
+            "     2     1\n     0     0\n     5     1     0     2     1      \n",
             3,
         ),
         (
-            "     1     2\n     0\n     5           1     1\n           1     1     1\n",
+            "     1     2\n     0\n     5           0     1     1\n           1     0     1     1\n",
             4,
         ),
-        // Five blanks are no place, and after six the count is still due.
+        // Five blanks are no place, and after six the mark is still due.
         ("     1     1\n     0\n     5     ", 3),
         ("     1     1\n     0\n     5      ", 3),
-        ("     1     1\n     0\n     5          1     1\n", 3),
+        ("     1     1\n     0\n     5          0     1     1\n", 3),
     ] {
         assert_eq!(refused(file.as_bytes()), (1, line), "{file:?}");
     }
@@ -463,29 +468,29 @@ fn files() {
     let text = std::str::from_utf8(P1).unwrap();
     let after = text.replace("30     1", "30     2");
     let unused = went(7, 8, 9);
-    for (entries, room) in [(3, 113), (4, 113), (3, 114), (200, 1_000)] {
+    for (entries, room) in [(3, 131), (4, 131), (3, 132), (200, 1_000)] {
         let (mut moves, mut buffer) = (vec![unused; entries], vec![b'#'; room]);
         let (settled, length) = settle_file(P1, &mut moves, &mut buffer).unwrap();
-        assert_eq!((settled.finish, settled.moves, length), (30, 1, 113));
+        assert_eq!((settled.finish, settled.moves, length), (30, 1, 131));
         assert_eq!(
             (moves[0], &settled.records[..]),
             (went(1, 1, 2), &moves[..1])
         );
         assert!(moves[1..].iter().all(|&entry| entry == unused));
-        assert_eq!(&buffer[..113], after.as_bytes());
-        assert!(buffer[113..].iter().all(|&b| b == b'#'));
+        assert_eq!(&buffer[..131], after.as_bytes());
+        assert!(buffer[131..].iter().all(|&b| b == b'#'));
 
         let (mut others, mut second) = (vec![unused; entries], vec![b'#'; room]);
         let (balanced, length) = balance_file(P1, &mut others, &mut second).unwrap();
         let numbers = (balanced.finish, balanced.floor, balanced.raises);
-        assert_eq!((numbers, length), ((30, 30, 2), 113));
+        assert_eq!((numbers, length), ((30, 30, 2), 131));
         assert_eq!((others, second), (moves, buffer));
     }
     let bad = text.replace("    20", "  1441");
     let empty: &[u8] = b"";
     for (file, entries, room, refusal, line) in [
         (P1, 2, 1_000, 9, 0),
-        (P1, 200, 112, 9, 0),
+        (P1, 200, 130, 9, 0),
         (P1, 0, 0, 9, 0),
         (bad.as_bytes(), 200, 1_000, 3, 4),
         (bad.as_bytes(), 2, 0, 3, 4),
@@ -546,18 +551,18 @@ fn written_sheets() {
     // Places not given are the first listed, and lists keep their order.
     let file = b"    12     4
      0     0     0     0     0     0     0     0     0     0     0     0
-     5           2    11     2
-    40     0     3     3     2     1
-     7     2     2    12     2
-  1440     9     1     9
+     5           0     2    11     2
+    40     0     0     3     3     2     1
+     7     2     0     2    12     2
+  1440     9     0     1     9
 ";
     let mut sheet = read(file).unwrap();
     let text = "    12     4
      0     0     0     0     0     0     0     0     0     0     0     0
-     5    11     2    11     2
-    40     3     3     3     2     1
-     7     2     2    12     2
-  1440     9     1     9
+     5    11     0     2    11     2
+    40     3     0     3     3     2     1
+     7     2     0     2    12     2
+  1440     9     0     1     9
 ";
     assert_eq!(written(&sheet), text);
     sheet.shift(2, 1).unwrap();
@@ -566,19 +571,19 @@ fn written_sheets() {
     sheet.add(100, &[6, 12]).unwrap();
     let text = "    12     4
      0     0     0     0     0     0     0     0     0     0     0     0
-    40     1     3     3     2     1
-     7     2     2    12     2
-  1440    10     2    10     8
-   100     6     2     6    12
+    40     1     0     3     3     2     1
+     7     2     0     2    12     2
+  1440    10     0     2    10     8
+   100     6     0     2     6    12
 ";
     assert_eq!(written(&sheet), text);
     let mut sheet = read(P1).unwrap();
     plan(&mut sheet);
     let text = "     2     3
      0     0
-    30     2     2     1     2
-    20     1     1     1
-    10     1     2     1     2
+    30     2     0     2     1     2
+    20     1     0     1     1
+    10     1     0     2     1     2
 ";
     assert_eq!(written(&sheet), text);
 }

@@ -1,4 +1,4 @@
-//! The four edits: what each refuses, in which order, and what it changes. And
+//! The edits: what each refuses, in which order, and what it changes. And
 //! what the other calls refuse.
 
 use second::*;
@@ -49,6 +49,7 @@ fn edits_refused() {
     }
     for number in ODD {
         assert_eq!(turned_down(&sheet, Call::Withdraw { number }), 6);
+        assert_eq!(turned_down(&sheet, Call::Start { number }), 6);
         let list = vec![1];
         assert_eq!(turned_down(&sheet, Call::Requalify { number, list }), 6);
         for instrument in [0, 1, 9] {
@@ -107,6 +108,14 @@ fn edits_made() {
     assert_eq!(sheet.places(), [1, 1, 4]);
     let lengths: Vec<u32> = sheet.batches().iter().map(|b| b.length).collect();
     assert_eq!(lengths, [5, 7, 1440]);
+    // Starting a batch changes its mark alone.
+    let mut started = sheet.clone();
+    started.start(2).unwrap();
+    assert_eq!(started.places(), sheet.places());
+    let marks: Vec<bool> = started.batches().iter().map(|b| b.started).collect();
+    assert_eq!(marks, [false, true, false]);
+    let due = Draft::from(&sheet).started(&[2]);
+    assert_eq!(Draft::from(&started), due);
     sheet.withdraw(3).unwrap();
     sheet.withdraw(1).unwrap();
     sheet.withdraw(1).unwrap();

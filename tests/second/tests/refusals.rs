@@ -59,6 +59,9 @@ fn some_drafts() -> Vec<Draft> {
     let most = [Sheet::CALIBRATION; 24];
     drafts.push(Draft::new(24, &[]).calibrated(&most));
     drafts.push(last.clone().calibrated(&most));
+    let listed = Draft::new(24, &[(1440, 24, &[24, 1, 2]), (1, 3, &[3])]);
+    drafts.push(listed.clone().started(&[1]));
+    drafts.push(listed.all_started());
     drafts.push(last);
     drafts
 }
@@ -117,7 +120,8 @@ fn every_field_malformed() {
     }
 }
 
-/// Six blanks are as malformed as those, but for the place, where they are 0.
+/// Six blanks are as malformed as those, but for the place, where they are 0;
+/// that is refused where the batch has started.
 #[test]
 fn every_field_blank() {
     for draft in some_drafts() {
@@ -130,9 +134,12 @@ fn every_field_blank() {
             if places.contains(&start) {
                 let mut zero = file.clone();
                 zero[start..start + 6].copy_from_slice(b"     0");
-                assert!(read(&blank).is_ok());
                 assert_eq!(read(&blank), read(&zero));
                 assert_eq!(program(&blank), program(&zero));
+                match file[start + 11] {
+                    b'0' => assert!(read(&blank).is_ok()),
+                    _ => assert_eq!(refused(&blank), (5, line_of(&file, start))),
+                }
             } else {
                 assert_eq!(refused(&blank), (1, line_of(&file, start)));
             }
@@ -170,7 +177,7 @@ fn bytes_left_over() {
         b"\0",
         b"\n\n\n",
         b"     1",
-        b"     1     0     1     1\n",
+        b"     1     0     0     1     1\n",
         b"x\ny\nz\n",
         b"\r\n",
     ];
@@ -229,7 +236,7 @@ fn calibration_out_of_range() {
             }
         }
         // One too few or too many: the LF, or its lack, is what shows.
-        let batch = "     7     1     1     1\n";
+        let batch = "     7     1     0     1     1\n";
         for count in [m - 1, m + 1] {
             let line = six(240).repeat(count as usize) + "\n";
             let file = six(m) + &six(1) + "\n" + &line + batch;
@@ -257,27 +264,27 @@ fn calibration_out_of_range() {
 fn files_without_line_2() {
     let head = |m: u32, n: u32| six(m) + &six(n) + "\n";
     for (file, number, line) in [
-        // The first case's sheet: four good calibrations, of which two are due.
+        // The first case's sheet: six good calibrations, of which two are due.
         (
             head(2, 3)
-                + "    30     1     2     1     2\n    20     1     1     1\n    10     1     2     1     2\n",
+                + "    30     1     0     2     1     2\n    20     1     0     1     1\n    10     1     0     2     1     2\n",
             1,
             2,
         ),
-        (head(1, 1) + "     5     1     1     1\n", 1, 2),
-        // Four fields for four calibrations, and then no batch.
-        (head(4, 1) + "     5     1     1     1\n", 1, 3),
+        (head(1, 1) + "     5     1     0     1     1\n", 1, 2),
+        // Five fields for five calibrations, and then no batch.
+        (head(5, 1) + "     5     1     0     1     1\n", 1, 3),
         // Two lines, the second of which is then the first batch's.
         (
-            head(4, 2) + "     5     1     1     1\n     6     1     1     1\n",
+            head(5, 2) + "     5     1     0     1     1\n     6     1     0     1     1\n",
             1,
             4,
         ),
-        // Too few fields for five instruments: the LF is no blank.
-        (head(5, 1) + "     5     1     1     1\n", 1, 2),
-        (head(2, 1) + "   241     1     2     1     2\n", 10, 2),
-        (head(2, 1) + "   300           2     1     2\n", 10, 2),
-        (head(2, 1) + "    30           2     1     2\n", 1, 2),
+        // Too few fields for six instruments: the LF is no blank.
+        (head(6, 1) + "     5     1     0     1     1\n", 1, 2),
+        (head(2, 1) + "   241     1     0     2     1     2\n", 10, 2),
+        (head(2, 1) + "   300           0     2     1     2\n", 10, 2),
+        (head(2, 1) + "    30           0     2     1     2\n", 1, 2),
         (head(1, 0), 1, 2),
         (head(24, 0), 1, 2),
     ] {
@@ -306,7 +313,7 @@ fn zeros(m: u32) -> String {
 /// A file with good lines before and after the one under test.
 fn around(m: u32, before: usize, line: &str, after: usize) -> Vec<u8> {
     let n = (before + 1 + after) as u32;
-    let good = "     7     1     1     1\n";
+    let good = "     7     1     0     1     1\n";
     let mut file = six(m) + &six(n) + "\n" + &zeros(m);
     file += &good.repeat(before);
     file += line;
@@ -319,78 +326,110 @@ fn faults_inside_a_batch_line() {
     // Lines for a sheet of three instruments, with the number each earns.
     let lines = [
         // Length, before anything that follows it.
-        ("     0     1     1     1\n", 3),
-        ("  1441     1     1     1\n", 3),
-        ("999999     1     1     1\n", 3),
+        ("     0     1     0     1     1\n", 3),
+        ("  1441     1     0     1     1\n", 3),
+        ("999999     1     0     1     1\n", 3),
         ("     0", 3),
-        ("  1441    0x     0\n", 3),
-        ("     0     9     9     9\n", 3),
+        ("  1441    0x     0     0\n", 3),
+        ("     0     9     9     9     9\n", 3),
         // A malformed place at its own field, a wrong one only after the LF.
-        ("     1    0x     0\n", 1),
-        ("     1    01     9     9\n", 1),
-        ("     1     9     0\n", 4),
-        ("     1     9     4     1     2     3     1\n", 4),
-        ("     1     9     1     4\n", 4),
-        ("     1     9     1     x\n", 1),
-        ("     1     9     1     1 \n", 1),
-        ("     1     9     1     1     2\n", 1),
-        ("     1     9     1     1\n", 5),
-        ("     1     2     1     1\n", 5),
-        ("     1     4     3     1     2     3\n", 5),
-        ("     1    24     1     1\n", 5),
-        ("     1    25     1     1\n", 5),
-        ("     1    33     1     1\n", 5),
-        ("     1   257     1     1\n", 5),
-        ("     1 65537     1     1\n", 5),
-        ("     1999999     1     1\n", 5),
+        ("     1    0x     0     0\n", 1),
+        ("     1    01     9     9     9\n", 1),
+        ("     1     9     0     0\n", 4),
+        ("     1     9     0     4     1     2     3     1\n", 4),
+        ("     1     9     0     1     4\n", 4),
+        ("     1     9     0     1     x\n", 1),
+        ("     1     9     0     1     1 \n", 1),
+        ("     1     9     0     1     1     2\n", 1),
+        ("     1     9     0     1     1\n", 5),
+        ("     1     2     0     1     1\n", 5),
+        ("     1     4     0     3     1     2     3\n", 5),
+        ("     1    24     0     1     1\n", 5),
+        ("     1    25     0     1     1\n", 5),
+        ("     1    33     0     1     1\n", 5),
+        ("     1   257     0     1     1\n", 5),
+        ("     1 65537     0     1     1\n", 5),
+        ("     1999999     0     1     1\n", 5),
         // A blank place is no fault and hides none.
-        ("     0           1     1\n", 3),
-        ("     1           0\n", 4),
-        ("     1           4", 4),
-        ("     1           1     4\n", 4),
-        ("     1           2     1     1\n", 4),
-        ("     1           1     x\n", 1),
-        ("     1           1     1 \n", 1),
-        ("     1           1     1     2\n", 1),
+        ("     0           0     1     1\n", 3),
+        ("     1           0     0\n", 4),
+        ("     1           0     4", 4),
+        ("     1           0     1     4\n", 4),
+        ("     1           0     2     1     1\n", 4),
+        ("     1           0     1     x\n", 1),
+        ("     1           0     1     1 \n", 1),
+        ("     1           0     1     1     2\n", 1),
         ("     1      \n", 1),
         ("     1     ", 1),
         ("     1     \n", 1),
-        ("     1     \t     1     1\n", 1),
-        ("     1\t          1     1\n", 1),
+        ("     1     \t     0     1     1\n", 1),
+        ("     1\t          0     1     1\n", 1),
+        // The mark, before the count and all that follows it.
+        ("     1     1     2     1     1\n", 1),
+        ("     1     1     2     0\n", 1),
+        ("     1     1     2     4     9", 1),
+        ("     1     9     3     1     1\n", 1),
+        ("     1     1    10     1     1\n", 1),
+        ("     1     1    11     1     1\n", 1),
+        ("     1     1   256     1     1\n", 1),
+        ("     1     1   257     1     1\n", 1),
+        ("     1     1 65537     1     1\n", 1),
+        ("     1     1999999     0\n", 1),
+        ("     1     1    01     1     1\n", 1),
+        ("     1     1    0x     0\n", 1),
+        ("     0     1     2     1     1\n", 3),
+        ("     1     1\n", 1),
+        ("     1     1     1\n", 1),
+        // A started batch has a place, which is judged after the LF as well.
+        ("     1     0     1     1     1\n", 5),
+        ("     1           1     1     1\n", 5),
+        ("     1     2     1     1     1\n", 5),
+        ("     1     0     1     3     1     2     3\n", 5),
+        ("     1     0     1     0\n", 4),
+        ("     1           1     4     1\n", 4),
+        ("     1     0     1     1     4\n", 4),
+        ("     1           1     2     1     1\n", 4),
+        ("     1     0     1     1     1 \n", 1),
+        ("     1     0     1     1     x\n", 1),
+        ("     1           1     1     1     2\n", 1),
         // A blank in another field is a fault at that field.
-        ("           9     9     9\n", 1),
+        ("           9     9     9     9\n", 1),
         ("      ", 1),
         ("     0      ", 3),
-        ("     1     9           4\n", 1),
-        ("     1                 4\n", 1),
-        ("     1     9     0      \n", 4),
-        ("     1     9     1      \n", 1),
-        ("     1     1     3     1      \n", 1),
-        ("     1     1     3     1           0\n", 1),
-        ("     1     1     3     1     1      \n", 4),
+        ("     1     9           4     1\n", 1),
+        ("     1     9                 1\n", 1),
+        ("     1     9     0           4\n", 1),
+        ("     1           0           4\n", 1),
+        ("     1     9     0     0      \n", 4),
+        ("     1     9     0     1      \n", 1),
+        ("     1     1     0     3     1      \n", 1),
+        ("     1     1     0     3     1           0\n", 1),
+        ("     1     1     0     3     1     1      \n", 4),
         // Count.
-        ("     1     1     0\n", 4),
-        ("     1     1     0     1\n", 4),
-        ("     1     1     0x", 4),
-        ("     1     1     4", 4),
-        ("     1     1999999     1\n", 4),
-        ("     1     1    0x     1\n", 1),
+        ("     1     1     0     0\n", 4),
+        ("     1     1     0     0     1\n", 4),
+        ("     1     1     0     0x", 4),
+        ("     1     1     0     4", 4),
+        ("     1     1     1     4", 4),
+        ("     1     1     0999999     1\n", 4),
+        ("     1     1     0    0x     1\n", 1),
         // List, each number judged before the next is looked at.
-        ("     1     1     1     0\n", 4),
-        ("     1     1     1     4\n", 4),
-        ("     1     1     1    33\n", 4),
-        ("     1     1     1   257\n", 4),
-        ("     1     1     1999999\n", 4),
-        ("     1     1     2     1     1\n", 4),
-        ("     1     1     3     1     2     1\n", 4),
-        ("     1     1     3     1     2     2\n", 4),
-        ("     1     1     3     1     1    0x\n", 4),
-        ("     1     1     3     1     1", 4),
-        ("     1     1     3     1     0    0x\n", 4),
-        ("     1     1     3     1    0x     1\n", 1),
-        ("     1     1     3     1    0x     0\n", 1),
-        ("     1     1     2     1     2     3\n", 1),
-        ("     1     1     2     1\n", 1),
+        ("     1     1     0     1     0\n", 4),
+        ("     1     1     0     1     4\n", 4),
+        ("     1     1     0     1    33\n", 4),
+        ("     1     1     0     1   257\n", 4),
+        ("     1     1     0     1999999\n", 4),
+        ("     1     1     0     2     1     1\n", 4),
+        ("     1     1     1     2     1     1\n", 4),
+        ("     1     1     0     3     1     2     1\n", 4),
+        ("     1     1     0     3     1     2     2\n", 4),
+        ("     1     1     0     3     1     1    0x\n", 4),
+        ("     1     1     0     3     1     1", 4),
+        ("     1     1     0     3     1     0    0x\n", 4),
+        ("     1     1     0     3     1    0x     1\n", 1),
+        ("     1     1     0     3     1    0x     0\n", 1),
+        ("     1     1     0     2     1     2     3\n", 1),
+        ("     1     1     0     2     1\n", 1),
     ];
     for before in [0, 1, 2, 57, 198] {
         let after = [0, 1, 199 - before];
@@ -405,15 +444,24 @@ fn faults_inside_a_batch_line() {
 
 #[test]
 fn the_first_fault_decides() {
-    let place = "     1     2     1     1\n";
-    let length = "     0     1     1     1\n";
-    let list = "     1     1     1     3\n";
-    let form = "     1     1     1    0x\n";
-    let all = [(place, 5), (length, 3), (list, 4), (form, 1)];
+    let place = "     1     2     0     1     1\n";
+    let length = "     0     1     0     1     1\n";
+    let list = "     1     1     0     1     3\n";
+    let form = "     1     1     0     1    0x\n";
+    let mark = "     1     1     2     1     1\n";
+    let open = "     1           1     1     1\n";
+    let all = [
+        (place, 5),
+        (length, 3),
+        (list, 4),
+        (form, 1),
+        (mark, 1),
+        (open, 5),
+    ];
     let head = |n| six(2) + &six(n) + "\n     0   240\n";
     for (first, number) in all {
         for (second, _) in all {
-            let file = head(3) + "     7     1     1     1\n" + first + second;
+            let file = head(3) + "     7     1     0     1     1\n" + first + second;
             assert_eq!(refused(file.as_bytes()), (number, 4));
         }
         // Left-over bytes and missing lines come last.
@@ -423,7 +471,7 @@ fn the_first_fault_decides() {
         assert_eq!(refused(file.as_bytes()), (number, 3));
     }
     // A blank place before them changes nothing.
-    let good = "     7           1     1\n";
+    let good = "     7           0     1     1\n";
     for (line, number) in all {
         let file = head(3) + good + line + good;
         assert_eq!(refused(file.as_bytes()), (number, 4));
@@ -448,6 +496,8 @@ fn list_of_all_instruments() {
         let sheet = read(&draft.render()).unwrap();
         assert_eq!(sheet.batches()[0].place, m);
         assert_eq!(read(&draft.without_places().render()), Ok(sheet));
+        let started = Draft::new(m, &[(5, 1, &list)]).all_started();
+        assert_eq!(read(&started.render()).unwrap().batches()[0].list, list);
         for bad in [0, m + 1] {
             for k in 0..m as usize {
                 let mut list = list.clone();
@@ -475,6 +525,11 @@ fn every_place() {
     for m in 1..=24u32 {
         let list: Vec<u32> = (1..=m).filter(|j| j % 3 != 2).collect();
         for place in 0..=m + 2 {
+            let started = Draft::new(m, &[(5, place, &list)]).all_started().render();
+            match list.contains(&place) {
+                true => assert_eq!(read(&started).unwrap().places(), [place]),
+                false => assert_eq!(refused(&started), (5, 3)),
+            }
             let file = Draft::new(m, &[(5, place, &list)]).render();
             if place == 0 || list.contains(&place) {
                 let expected = if place == 0 { 1 } else { place };
@@ -485,6 +540,7 @@ fn every_place() {
         }
         let blank = Draft::new(m, &[(5, 0, &list)]).without_places();
         assert_eq!(read(&blank.render()).unwrap().batches()[0].place, 1);
+        assert_eq!(refused(&blank.all_started().render()), (5, 3));
     }
 }
 

@@ -11,7 +11,7 @@ use Rattle.bankwrite.proofs.main.Statement.{statement}
 use Rattle.bankwrite.proofs.main.Tie as tie
 
 -- what the call answers is in bounds
-modest : (c : tie.After-write-into) → Modest 32758 (hostedOf (c .write-into .result) (c .write-into .last .1 .1 .0))
+modest : (c : tie.After-write-into) → Modest 33958 (hostedOf (c .write-into .result) (c .write-into .last .1 .1 .0))
 modest c =
     let r = c .before .before .before .before .before .before .before .before .before .read-both in
     let s = front-short (r .result .journal) 999999 (r .last .1 .1 .1 .0) (omega (arith, r .ensures .1, r .kept .1 .1 .1 .0)) (omega (arith, r .ensures .1)) in

@@ -219,6 +219,8 @@ fn main() {
     time("the hard shape", (0..4).map(kinds::hard).collect());
     let calibrated = (0..4).map(kinds::hard_calibrated).collect();
     time("the hard shape with calibrations", calibrated);
+    let started = (0..4).map(kinds::hard_started).collect();
+    time("the hard shape with started batches", started);
     for (name, lists) in [
         ("reading alone, short lists", Lists::Short),
         ("reading alone, long lists", Lists::Long),

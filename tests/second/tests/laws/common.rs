@@ -3,6 +3,19 @@
 use second::rng::Rng;
 use second::*;
 
+/// May a batch be on this instrument: one of its list, and the one where it
+/// stands if it has started?
+pub fn may_be(batch: &Batch, instrument: u32) -> bool {
+    let stays = !batch.started || instrument == batch.place;
+    stays && batch.list.contains(&instrument)
+}
+
+/// The instruments that it may be on.
+pub fn open(batch: &Batch) -> Vec<u32> {
+    let listed = batch.list.iter().copied();
+    listed.filter(|&j| may_be(batch, j)).collect()
+}
+
 /// What takes part in a trial: the batches, and each calibration above 0 as one
 /// that may be on its own instrument alone.
 pub fn items(sheet: &Sheet) -> Vec<Batch> {
@@ -10,6 +23,7 @@ pub fn items(sheet: &Sheet) -> Vec<Batch> {
         length: sheet.calibrations()[j as usize - 1],
         list: vec![j],
         place: j,
+        started: false,
     };
     let calibrations = (1..=sheet.instruments()).map(own);
     let batches = sheet.batches().iter().cloned();
@@ -45,7 +59,7 @@ pub fn longest(sheet: &Sheet) -> u32 {
 
 /// The minutes of batches and calibrations that can be in the group alone.
 pub fn confined(sheet: &Sheet, group: &[u32]) -> u32 {
-    let inside = |b: &&Batch| b.list.iter().all(|j| group.contains(j));
+    let inside = |b: &&Batch| open(b).iter().all(|j| group.contains(j));
     let batches = sheet.batches().iter().filter(inside).map(|b| b.length);
     let own = group.iter().map(|&j| sheet.calibrations()[j as usize - 1]);
     batches.chain(own).sum()
@@ -53,7 +67,7 @@ pub fn confined(sheet: &Sheet, group: &[u32]) -> u32 {
 
 pub fn permitted(sheet: &Sheet, places: &[u32]) -> bool {
     let mut pairs = sheet.batches().iter().zip(places);
-    places.len() == sheet.batches().len() && pairs.all(|(b, p)| b.list.contains(p))
+    places.len() == sheet.batches().len() && pairs.all(|(b, &p)| may_be(b, p))
 }
 
 /// The sheet with these places.
@@ -80,14 +94,15 @@ pub fn record_laws(sheet: &Sheet, after: &Sheet, records: &[Move]) {
     assert_eq!(&made, after);
 }
 
-/// The earliest finish of any permitted plan, by going through all of them.
+/// The earliest finish of any permitted plan, by going through all of them. They
+/// leave started batches where they are.
 pub fn optimum(sheet: &Sheet) -> u32 {
     fn least(sheet: &Sheet, places: &mut Vec<u32>) -> u32 {
         let Some(batch) = sheet.batches().get(places.len()) else {
             return *loads(sheet, places).iter().max().unwrap();
         };
         let mut found = u32::MAX;
-        for &j in &batch.list {
+        for j in open(batch) {
             places.push(j);
             found = found.min(least(sheet, places));
             places.pop();
@@ -126,11 +141,13 @@ pub fn chain(rng: &mut Rng) -> Sheet {
             lines.push(Line {
                 length: rng.within(1, 12),
                 place: Some(*rng.pick(&list)),
+                mark: 0,
                 list,
             });
         }
     }
     rng.shuffle(&mut lines);
+    gen::start(rng, &mut lines);
     let draft = Draft {
         instruments: m,
         calibrations: gen::calibrations(rng, m, 12),
@@ -158,7 +175,7 @@ pub fn halving(sheet: &Sheet) -> Vec<(u32, Trial)> {
 
 pub fn step_bounds(sheet: &Sheet, raises: u32, bumps: u32) {
     let calibrations = sheet.calibrations().iter().filter(|&&c| c > 0).count() as u32;
-    let listed: usize = sheet.batches().iter().map(|b| b.list.len()).sum();
+    let listed: usize = sheet.batches().iter().map(|b| open(b).len()).sum();
     let (m, n) = (sheet.instruments(), sheet.batches().len() as u32);
     assert!(raises <= m * (2 * m + 1) + (n + calibrations) * (2 * m + 2));
     assert!(bumps <= (4 * m + 4) * (listed as u32 + calibrations));

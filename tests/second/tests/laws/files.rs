@@ -72,7 +72,7 @@ fn good_and_damaged() {
         records: |answer: &Settled| &answer.records,
     };
     let mut rng = Rng::new(61);
-    let mut refusals = [0; 11];
+    let mut refusals = [0; 12];
     for round in 0..6_000 {
         let shape = match round % 100 {
             0 => gen::FULL,

@@ -14,8 +14,9 @@ fn steps(trial: &Trial) -> u32 {
 fn many_steps_within_the_bounds() {
     // With the least number of steps of the longest trial, and of all.
     let plain = (0..24).map(|seed| (seed, gen::hard(seed), [200_000, 600_000]));
+    let started = (24..28).map(|seed| (seed, gen::hard_started(seed), [200_000, 600_000]));
     let calibrated = (0..8).map(|seed| (seed, gen::hard_calibrated(seed), [200_000, 250_000]));
-    for (seed, sheet, least) in plain.chain(calibrated) {
+    for (seed, sheet, least) in plain.chain(started).chain(calibrated) {
         assert_eq!((sheet.instruments(), sheet.batches().len()), (24, 200));
         let tried = halving(&sheet);
         for (level, answer) in &tried {
@@ -48,11 +49,27 @@ fn many_steps_within_the_bounds() {
 
 #[test]
 fn a_long_trial_step_by_step() {
-    for (sheet, returned) in [(gen::hard(1), 0), (gen::hard_calibrated(1), 400)] {
+    for (sheet, returned, reseated) in [
+        (gen::hard(1), 0, 0),
+        (gen::hard_calibrated(1), 400, 0),
+        (gen::hard_started(1), 0, 400),
+    ] {
         let tried = halving(&sheet);
         let (level, answer) = tried.iter().max_by_key(|(_, t)| steps(t)).unwrap();
         let watched = watch(&sheet, *level as u64, 97);
         assert_eq!(&watched.answer, answer);
         assert!(watched.returned >= returned, "{}", watched.returned);
+        assert!(watched.reseated >= reseated, "{}", watched.reseated);
+    }
+}
+
+/// Batches that may run elsewhere but have started are as those that may not.
+#[test]
+fn started_for_confined() {
+    for seed in 0..4 {
+        let (mut sheet, mut other) = (gen::hard(seed), gen::hard_started(seed));
+        assert_eq!(halving(&sheet), halving(&other));
+        assert_eq!(plan(&mut sheet), plan(&mut other));
+        assert_eq!(sheet.places(), other.places());
     }
 }

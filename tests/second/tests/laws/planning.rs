@@ -101,17 +101,28 @@ fn bounds(sheet: &Sheet, balanced: &Balanced, settled: &Settled, optimum: u32) {
     assert!(sheet.total() == 0 || balanced.finish < optimum + longest(sheet));
 }
 
+fn started(sheet: &Sheet) -> usize {
+    sheet.batches().iter().filter(|b| b.started).count()
+}
+
 #[test]
 fn small_sheets() {
     let mut rng = Rng::new(52);
     let (mut grouped, mut later, mut settling) = (0, 0, 0);
     let (mut calibrated, mut no_batch) = (0, 0);
+    let (mut some, mut all, mut held) = (0, 0, 0);
     for _ in 0..20_000 {
         let sheet = gen::sheet(&mut rng, gen::SMALL);
         let (after, balanced, settled) = plan_laws(&sheet);
         let above_0 = sheet.calibrations().iter().any(|&c| c > 0);
         calibrated += above_0 as u32;
         no_batch += (above_0 && sheet.batches().is_empty()) as u32;
+        let (begun, n) = (started(&sheet), sheet.batches().len());
+        some += (0 < begun && begun < n) as u32;
+        all += (n > 0 && begun == n) as u32;
+        held += review(&Draft::from(&sheet).waiting().sheet())
+            .gains
+            .is_some_and(|number| sheet.batches()[number - 1].started) as u32;
         let optimum = optimum(&sheet);
         bounds(&sheet, &balanced, &settled, optimum);
         grouped += balanced.group.is_some() as u32;
@@ -121,7 +132,9 @@ fn small_sheets() {
         let (_, balanced, settled) = plan_laws(&after);
         bounds(&after, &balanced, &settled, optimum);
     }
-    let counts = [grouped, later, settling, calibrated, no_batch];
+    let counts = [
+        grouped, later, settling, calibrated, no_batch, some, all, held,
+    ];
     assert!(counts.into_iter().all(|count| count > 300), "{counts:?}");
     assert!(
         grouped > 2000 && calibrated > 8000,

@@ -99,12 +99,13 @@ fn line_faults(text: &Text, m: u32) -> (Faults, Line) {
     if place.is_none() && !text.blank(1) {
         faults.note(1, 1, text.line);
     }
-    faults.judge(text, 2, 1..=m, 4);
-    let [length, count] = [0, 2].map(|k| text.field(k).unwrap_or(0));
+    faults.judge(text, 2, 0..=1, 1);
+    faults.judge(text, 3, 1..=m, 4);
+    let [length, mark, count] = [0, 2, 3].map(|k| text.field(k).unwrap_or(0));
     let mut list = Vec::new();
     if (1..=m).contains(&count) {
-        let last = 3 + count as usize;
-        for k in 3..last {
+        let last = 4 + count as usize;
+        for k in 4..last {
             faults.judge(text, k, 1..=m, 4);
             let instrument = text.field(k).unwrap_or(0);
             if list.contains(&instrument) {
@@ -115,7 +116,8 @@ fn line_faults(text: &Text, m: u32) -> (Faults, Line) {
         if !text.ends_after(last) {
             faults.note(last, 1, text.line);
         }
-        if place.is_some_and(|place| place != 0 && !list.contains(&place)) {
+        let given = place.filter(|&place| place != 0);
+        if given.map_or(mark == 1, |place| !list.contains(&place)) {
             faults.note(last + 1, 5, text.line);
         }
     }
@@ -124,6 +126,7 @@ fn line_faults(text: &Text, m: u32) -> (Faults, Line) {
         Line {
             length,
             place,
+            mark,
             list,
         },
     )
@@ -151,7 +154,7 @@ fn due(file: &[u8]) -> Result<Draft, (u32, u32)> {
         if let Some(fault) = faults.first() {
             return Err(fault);
         }
-        text = text.after(3 + batch.list.len());
+        text = text.after(4 + batch.list.len());
         draft.lines.push(batch);
     }
     match text.rest {
@@ -181,7 +184,7 @@ fn read_laws(file: &[u8]) -> Result<Sheet, Fault> {
 #[test]
 fn files_read_back() {
     let mut rng = Rng::new(11);
-    let (mut given, mut zero, mut blank) = (0, 0, 0);
+    let (mut given, mut zero, mut blank, mut started) = (0, 0, 0, 0);
     for shape in [gen::SMALL, gen::MEDIUM, gen::FULL, gen::LARGE] {
         for _ in 0..150 {
             let draft = gen::draft(&mut rng, shape);
@@ -189,6 +192,7 @@ fn files_read_back() {
             assert_eq!(sheet, draft.sheet());
             assert_eq!(read(&Draft::from(&sheet).render()), Ok(sheet));
             for line in &draft.lines {
+                started += line.started() as u32;
                 match line.place {
                     None => blank += 1,
                     Some(0) => zero += 1,
@@ -197,15 +201,16 @@ fn files_read_back() {
             }
         }
     }
-    let counts = [given, zero, blank];
+    let counts = [given, zero, blank, started];
     assert!(counts.into_iter().all(|count| count > 5_000), "{counts:?}");
 }
 
 #[test]
 fn damaged_files() {
     let mut rng = Rng::new(12);
-    let (mut sound, mut blank) = (0, 0);
-    let mut by_number = [0; 11];
+    let (mut sound, mut blank, mut started) = (0, 0, 0);
+    let (mut bad_mark, mut no_place) = (0, 0);
+    let mut by_number = [0; 12];
     for round in 0..30_000 {
         let shape = if round % 8 == 0 {
             gen::MEDIUM
@@ -217,42 +222,62 @@ fn damaged_files() {
             gen::damage(&mut rng, &mut file);
         }
         match read_laws(&file) {
-            Ok(_) => {
+            Ok(sheet) => {
                 sound += 1;
                 blank += (gen::blank_places(&file) > 0) as u32;
+                started += sheet.batches().iter().any(|b| b.started) as u32;
             }
-            Err(fault) => by_number[fault.refusal.number() as usize] += 1,
+            Err(fault) => {
+                by_number[fault.refusal.number() as usize] += 1;
+                // A line with all fields in their columns.
+                let at = gen::places(&file)
+                    .get((fault.line as usize).wrapping_sub(3))
+                    .copied();
+                let fields = at.and_then(|at| file.get(at..at + 12));
+                let Some((place, mark)) = fields.map(|fields| fields.split_at(6)) else {
+                    continue;
+                };
+                let other = number(mark).is_some_and(|mark| mark > 1);
+                let open = matches!(place, b"     0" | b"      ") && mark == b"     1";
+                bad_mark += (fault.refusal == Refusal::Form && other) as u32;
+                no_place += (fault.refusal == Refusal::Place && open) as u32;
+            }
         }
     }
     // The damage is varied enough to meet every outcome often.
     assert!(sound > 100 && blank > 100, "{sound}, {blank} of them blank");
+    let counts = [started, bad_mark, no_place];
+    assert!(counts.into_iter().all(|count| count > 100), "{counts:?}");
     for number in [1, 2, 3, 4, 5, 10] {
         assert!(by_number[number] > 100, "{by_number:?}");
     }
-    assert_eq!(by_number[6..10], [0; 4]);
+    assert_eq!((by_number[11], &by_number[6..10]), (0, &[0; 4][..]));
 }
 
-/// Every batch line that can be made of up to six numbers, blanks and LFs.
+/// Every batch line that can be made of up to seven numbers, blanks and LFs.
 #[test]
 fn every_short_line() {
     const HEAD: &[u8] = b"     2     1\n     0   240\n";
-    const PIECES: [&[u8]; 4] = [b"     1", b"     2", b"      ", b"\n"];
-    let (mut sound, mut blank) = (0, 0);
+    const PIECES: [&[u8]; 5] = [b"     0", b"     1", b"     2", b"      ", b"\n"];
+    let (mut sound, mut blank, mut started) = (0, 0, 0);
     let mut lines: Vec<Vec<u8>> = vec![Vec::new()];
-    for _ in 0..=6 {
+    for _ in 0..=7 {
         for line in &lines {
             let file = [HEAD, line.as_slice()].concat();
-            if read_laws(&file).is_ok() {
+            if let Ok(sheet) = read_laws(&file) {
                 sound += 1;
                 blank += gen::blank_places(&file);
+                started += sheet.batches()[0].started as u32;
             }
         }
         let longer = |line: &Vec<u8>| PIECES.map(|piece| [line, piece].concat());
         lines = lines.iter().flat_map(longer).collect();
     }
-    // Two lengths. A list of one has that place or a blank one, a list of two
-    // in either order has both places or a blank one.
-    assert_eq!(sound, 2 * (2 * 2 + 2 * 3));
+    // Two lengths. A list of one has that place, 0 or a blank one, a list of two
+    // in either order has both places, 0 or a blank one. One that has started has
+    // neither 0 nor a blank.
+    assert_eq!(started, 2 * (2 + 2 * 2));
+    assert_eq!(sound, started + 2 * (2 * 3 + 2 * 4));
     assert_eq!(blank, 2 * (2 + 2));
 }
 
@@ -261,7 +286,7 @@ fn every_short_line() {
 #[test]
 fn every_short_line_2() {
     const PIECES: [&[u8]; 5] = [b"     0", b"   240", b"   241", b"      ", b"\n"];
-    let mut by_number = [0; 11];
+    let mut by_number = [0; 12];
     let mut lines: Vec<Vec<u8>> = vec![Vec::new()];
     for _ in 0..=4 {
         for line in &lines {

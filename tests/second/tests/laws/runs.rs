@@ -19,6 +19,10 @@ fn good_list(list: &[u64], m: u32) -> bool {
 /// The refusal due to a call: the first of its checks that does not hold.
 fn refusal_due(book: &Draft, call: &Call) -> Option<Refusal> {
     let there = |number: u64| 1 <= number && number <= book.lines.len() as u64;
+    let waits = |number: u64| {
+        let line = book.lines.get((number as usize).wrapping_sub(1));
+        !line.is_some_and(Line::started)
+    };
     let listed = |number: u64, j: u64| {
         let line = &book.lines[number as usize - 1];
         line.list.iter().any(|&k| k as u64 == j)
@@ -33,13 +37,18 @@ fn refusal_due(book: &Draft, call: &Call) -> Option<Refusal> {
             (1 <= *length && *length <= 1440, Refusal::Length),
             (good_list(list, m), Refusal::List),
         ],
-        Call::Withdraw { number } => &[(there(*number), Refusal::NoBatch)],
+        Call::Withdraw { number } | Call::Start { number } => &[
+            (there(*number), Refusal::NoBatch),
+            (waits(*number), Refusal::Started),
+        ],
         Call::Requalify { number, list } => &[
             (there(*number), Refusal::NoBatch),
+            (waits(*number), Refusal::Started),
             (good_list(list, m), Refusal::List),
         ],
         Call::Move { number, instrument } => &[
             (there(*number), Refusal::NoBatch),
+            (waits(*number), Refusal::Started),
             (
                 !there(*number) || listed(*number, *instrument),
                 Refusal::Place,
@@ -62,6 +71,7 @@ fn enter(book: &mut Draft, call: &Call) -> Answer {
         Call::Add { length, list } => book.lines.push(Line {
             length: *length as u32,
             place: Some(list[0] as u32),
+            mark: 0,
             list: narrow(list),
         }),
         Call::Withdraw { number } => {
@@ -76,6 +86,7 @@ fn enter(book: &mut Draft, call: &Call) -> Answer {
         Call::Move { number, instrument } => {
             book.lines[*number as usize - 1].place = Some(*instrument as u32);
         }
+        Call::Start { number } => book.lines[*number as usize - 1].mark = 1,
         // The rest is worked out on a sheet made from the book.
         Call::Review => {
             let sheet = book.sheet();
@@ -123,7 +134,7 @@ fn run_laws(draft: &Draft, calls: &[Call]) -> Vec<Answer> {
 #[test]
 fn runs() {
     let mut rng = Rng::new(31);
-    let mut refusals = [0; 10];
+    let mut refusals = [0; 12];
     let (mut balanced, mut settled, mut records) = (0, 0, 0);
     for round in 0..4000 {
         let (shape, count) = match round % 10 {
@@ -148,7 +159,7 @@ fn runs() {
             }
         }
     }
-    for number in [3, 4, 5, 6, 8, 9] {
+    for number in [3, 4, 5, 6, 8, 9, 11] {
         assert!(refusals[number] > 200, "{refusals:?}");
     }
     let counts = [balanced, settled, records];
@@ -166,6 +177,7 @@ fn runs_on_a_full_sheet() {
             batches: (199, 200),
             lengths: (1, 5),
             calibrations: 5,
+            started: true,
         };
         let draft = gen::draft(&mut rng, shape);
         let calls = gen::calls(&mut rng, draft.instruments, 200, 5, 20);

@@ -6,7 +6,7 @@ use second::rng::Rng;
 use second::settle::next_move;
 use second::*;
 
-use crate::common::{chain, loads, permitted, record_laws};
+use crate::common::{chain, loads, open, permitted, record_laws};
 
 /// The batches that gain, by index.
 fn gaining(sheet: &Sheet) -> Vec<usize> {
@@ -14,8 +14,8 @@ fn gaining(sheet: &Sheet) -> Vec<usize> {
     let load = |j: u32| loads[j as usize - 1];
     let gains = |&i: &usize| {
         let b = &sheet.batches()[i];
-        let mut others = b.list.iter().filter(|&&j| j != b.place);
-        others.any(|&j| load(j) + b.length < load(b.place))
+        let others = open(b).into_iter().filter(|&j| j != b.place);
+        others.map(load).any(|l| l + b.length < load(b.place))
     };
     (0..sheet.batches().len()).filter(gains).collect()
 }
@@ -61,6 +61,7 @@ pub fn settle_laws(sheet: &Sheet) -> Watched {
             .filter(|&&i| now.batches()[i].length == longest);
         let i = *longest.next().unwrap();
         let b = now.batches()[i].clone();
+        assert!(!b.started);
         let others: Vec<u32> = b.list.into_iter().filter(|&j| j != b.place).collect();
         let load = |j: u32| loads[j as usize - 1];
         let least = others.iter().map(|&j| load(j)).min().unwrap();

@@ -3,7 +3,7 @@
 use second::rng::Rng;
 use second::*;
 
-use crate::common::{chain, confined, levels, loads, longest, optimum};
+use crate::common::{chain, confined, levels, loads, longest, open, optimum};
 use crate::watch::{watch, Watched};
 
 /// What a trial's answer shows, whatever its acts were.
@@ -27,7 +27,7 @@ fn closed(sheet: &Sheet, places: &[u32], set: u32) -> bool {
     let holds = |j: &u32| set >> (j - 1) & 1 == 1;
     let pairs = sheet.batches().iter().zip(places);
     let mut inside = pairs.filter(|(_, p)| holds(p));
-    inside.all(|(b, _)| b.list.iter().all(holds))
+    inside.all(|(b, _)| open(b).iter().all(holds))
 }
 
 /// The same group by going through all sets of instruments, and the
@@ -55,7 +55,8 @@ fn failure_laws(sheet: &Sheet, level: u64, watched: &Watched, optimum: u32) {
 #[test]
 fn small_sheets() {
     let mut rng = Rng::new(41);
-    let (mut failures, mut partial, mut acts, mut returned) = (0, 0, 0, 0);
+    let (mut failures, mut partial, mut acts) = (0, 0, 0);
+    let (mut returned, mut reseated) = (0, 0);
     for _ in 0..20_000 {
         let sheet = gen::sheet(&mut rng, gen::SMALL);
         let optimum = optimum(&sheet);
@@ -65,6 +66,7 @@ fn small_sheets() {
             failure_laws(&sheet, level, &watched, optimum);
             acts += watched.answer.raises + watched.answer.bumps;
             returned += watched.returned;
+            reseated += watched.reseated;
             if let Verdict::Fail(group) = watched.answer.verdict {
                 failures += 1;
                 partial += (group.len() < sheet.instruments() as usize) as u32;
@@ -74,6 +76,7 @@ fn small_sheets() {
     // Both kinds of group are met often.
     assert!(failures > 2000 && partial > 500, "{failures} {partial}");
     assert!(acts > 100_000 && returned > 2000, "{acts} {returned}");
+    assert!(reseated > 2000, "{reseated}");
 }
 
 fn watched_at(rng: &mut Rng, sheet: &Sheet, few: u64, every: u32) {

@@ -4,7 +4,7 @@
 use second::trial::{Act, State};
 use second::*;
 
-use crate::common::{item_loads, items, longest, permitted, step_bounds};
+use crate::common::{item_loads, items, longest, may_be, open, permitted, step_bounds};
 
 /// A batch or an instrument, by its number from 1. Calibrations above 0 are
 /// batches here, numbered after the sheet's own.
@@ -55,7 +55,7 @@ impl<'a> View<'a> {
     /// The ends of an item's arrows, lowest number first.
     fn ends(&self, item: Item) -> Vec<Item> {
         let State { sheet, places, .. } = self.state;
-        let arrow = |i: usize, j: u32| self.state.items[i - 1].list.contains(&j);
+        let arrow = |i: usize, j: u32| may_be(&self.state.items[i - 1], j);
         match item {
             Item::Batch(i) => (1..=sheet.instruments())
                 .filter(|&j| arrow(i, j) && places[i - 1] != j)
@@ -166,7 +166,7 @@ fn closure(sheet: &Sheet, places: &[u32], first: u32) -> Vec<u32> {
     let m = sheet.instruments() as usize;
     let mut reach = vec![vec![false; m + 1]; m + 1];
     for (batch, &place) in sheet.batches().iter().zip(places) {
-        for &j in &batch.list {
+        for j in open(batch) {
             reach[place as usize][j as usize] = true;
         }
     }
@@ -186,8 +186,10 @@ pub struct Watched {
     pub answer: Trial,
     /// Where the batches were at the end.
     pub places: Vec<u32>,
-    /// How often a calibration was bumped off its instrument and went back.
+    /// How often a calibration was bumped off its instrument and went back, and
+    /// how often a started batch did so.
     pub returned: u32,
+    pub reseated: u32,
 }
 
 /// Follow a trial and check its answer. The heights of all arrows' ends are
@@ -204,7 +206,7 @@ pub fn watch(sheet: &Sheet, level: u64, every: u32) -> Watched {
     assert_eq!(state.batch_heights, vec![0; items.len()]);
     assert_eq!((state.raises, state.bumps), (0, 0));
     let mut light = View::of(&state).light();
-    let mut returned = 0;
+    let (mut returned, mut reseated) = (0, 0);
     loop {
         let view = View::of(&state);
         assert_eq!(state.loads, view.loads, "the loads kept");
@@ -226,6 +228,9 @@ pub fn watch(sheet: &Sheet, level: u64, every: u32) -> Watched {
             if batch >= n {
                 assert_eq!(instrument, own[batch - n]);
                 returned += 1;
+            } else if sheet.batches()[batch].started {
+                assert_eq!(instrument, sheet.batches()[batch].place);
+                reseated += 1;
             }
         }
         let expected = effect(&state, act);
@@ -257,5 +262,6 @@ pub fn watch(sheet: &Sheet, level: u64, every: u32) -> Watched {
         answer,
         places,
         returned,
+        reseated,
     }
 }

@@ -18,7 +18,7 @@ fn write_laws(sheet: &Sheet) -> Vec<u8> {
 #[test]
 fn accepted_files() {
     let mut rng = Rng::new(51);
-    let (mut same, mut zero, mut blank, mut damaged) = (0, 0, 0, 0);
+    let (mut same, mut zero, mut blank, mut damaged, mut started) = (0, 0, 0, 0, 0);
     for round in 0..10_000 {
         let shape = if round % 50 == 0 {
             *rng.pick(&SHAPES)
@@ -37,9 +37,10 @@ fn accepted_files() {
             zero += (file[at..at + 6] == *b"     0") as u32;
             blank += (file[at..at + 6] == *b"      ") as u32;
         }
+        started += sheet.batches().iter().filter(|b| b.started).count() as u32;
         damaged += (round % 2 == 0) as u32;
     }
-    let counts = [same, zero, blank, damaged];
+    let counts = [same, zero, blank, damaged, started];
     assert!(counts.into_iter().all(|count| count > 300), "{counts:?}");
 }
 
@@ -49,6 +50,7 @@ fn accepted_files() {
 fn after_calls() {
     let mut rng = Rng::new(52);
     let (mut unordered, mut elsewhere, mut changed, mut kept) = (0, 0, 0, 0);
+    let (mut started, mut longer) = (0, 0);
     for round in 0..600 {
         let shape = SHAPES[if round % 20 == 0 { 2 } else { round % 2 }];
         let mut sheet = gen::sheet(&mut rng, shape);
@@ -67,8 +69,10 @@ fn after_calls() {
         for batch in sheet.batches() {
             unordered += !batch.list.is_sorted() as u32;
             elsewhere += (batch.place != batch.list[0]) as u32;
+            started += batch.started as u32;
+            longer += (batch.started && batch.list.len() > 1) as u32;
         }
     }
-    let counts = [unordered, elsewhere, changed, kept];
+    let counts = [unordered, elsewhere, changed, kept, started, longer];
     assert!(counts.into_iter().all(|count| count > 1_000), "{counts:?}");
 }

@@ -3,7 +3,7 @@ use mathlib.Core.Path.{sym, ap, _∙_}
 use lib.Seq.{length-take-le}
 use borrow.Author.Needs.{needs}
 use Rattle.sheet.specs.Answers.{editOf}
-use Rattle.journal.proofs.Said.{edit-add, edit-withdraw, edit-requalify, edit-move}
+use Rattle.journal.proofs.Said.{edit-add, edit-withdraw, edit-requalify, edit-move, edit-start}
 use Rattle.journal.proofs.call.edited.Statement.{statement}
 use Rattle.journal.proofs.call.edited.Tie as tie
 
@@ -45,7 +45,15 @@ move-to-requires c κs = search needs
 returns-4 : tie.Need-returns-4
 returns-4 c =
     c .move-to .ensures .is
-    ∙ ap (editOf (c .before .before .before .before .before .args .sheet)) (edit-move (c .before .before .before .before .before .args .e) (c .before .before .before .if1 .left) (c .before .before .if2 .left) (c .before .if3 .left))
+    ∙ ap (editOf (c .before .before .before .before .before .before .args .sheet)) (edit-move (c .before .before .before .before .before .before .args .e) (c .before .if4 .taken))
+
+start-requires : tie.Need-start-requires
+start-requires c κs = search needs
+
+returns-5 : tie.Need-returns-5
+returns-5 c =
+    c .start .ensures .is
+    ∙ ap (editOf (c .before .before .before .before .before .before .args .sheet)) (edit-start (c .before .before .before .before .before .before .args .e) (c .before .before .before .before .if1 .left) (c .before .before .before .if2 .left) (c .before .before .if3 .left) (c .before .if4 .left))
 
 pub edited-spec : {M : Type 1} → statement M
 edited-spec =
@@ -62,4 +70,6 @@ edited-spec =
     requalify-requires
     returns-3
     move-to-requires
-    returns-4)
+    returns-4
+    start-requires
+    returns-5)

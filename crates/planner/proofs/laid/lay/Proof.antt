@@ -1,9 +1,9 @@
--- The arrays say the instance of the sheet's book, its places and their loads.
+-- The arrays say the instance of the sheet's book, its lists as marks too, its places and their loads.
 use native.Mathlib.Omega.{arith}
 use borrow.Author.Needs.{needs}
 use Rattle.sheet.specs.Represent.{bookOf}
 use Rattle.sheet.proofs.SoundViews.{view-instruments, view-permitted}
-use Rattle.planner.proofs.SheetArrays.{few-items, items-wide, view-reads, view-place, permitted-at}
+use Rattle.planner.proofs.SheetArrays.{few-items, items-wide, view-reads, view-marked, view-place, permitted-at}
 use Rattle.planner.proofs.TrialAnswers.{stands}
 use Rattle.planner.proofs.laid.lay.Statement.{statement}
 use Rattle.planner.proofs.laid.lay.Tie as tie
@@ -52,7 +52,8 @@ returns c =
     record {
       stands = stands r (permitted-at t (view-permitted s v)) (c .loads-of .ensures .0);
       shown = t;
-      wide = (l .0, w .masks-of .ensures .long, l .1, search needs);
+      marked = view-marked (bookOf s) _ (a .items-of .result) (r .jobs) (a .items-of .ensures);
+      wide = (l .0, w .masks-of .ensures .long, l .1, search needs, l .2);
       rest = c .loads-of .ensures .1;
     }
 

@@ -18,6 +18,9 @@ element-write-self-2 c = search needs
 element-write-self-3 : tie.Need-element-write-self-3
 element-write-self-3 c = search needs
 
+element-write-self-4 : tie.Need-element-write-self-4
+element-write-self-4 c = search needs
+
 slice-aggregate-enter-part : tie.Need-slice-aggregate-enter-part
 slice-aggregate-enter-part c = search needs
 
@@ -31,7 +34,7 @@ enter-part-requires : tie.Need-enter-part-requires
 enter-part-requires c κs =
     let a = c .before .before .before .args in
     let h : length (a .t1 .lists) ≡ 4800 = search needs in
-    let r : length (a .t5) ≡ 24 = search needs in
+    let r : length (a .t6) ≡ 24 = search needs in
     (omega (arith, c .before .before .before .pre), omega arith)
 
 add-self : tie.Need-add-self
@@ -48,6 +51,7 @@ appended-spec =
     element-write-self
     element-write-self-2
     element-write-self-3
+    element-write-self-4
     slice-aggregate-enter-part
     mul-enter-part
     slice-aggregate-enter-part-2

@@ -29,31 +29,41 @@ slice-aggregate-shift-down-2 c = search needs
 shift-down-requires-2 : tie.Need-shift-down-requires-2
 shift-down-requires-2 c κs =
     let s = c .before .before .before .before .before .before .before .before .before .before in
-    let h : length (s .args .self .counts) ≡ 200 = search needs in
+    let h : length (s .args .self .started) ≡ 200 = search needs in
     omega (arith, s .pre)
 
 slice-aggregate-shift-down-3 : tie.Need-slice-aggregate-shift-down-3
 slice-aggregate-shift-down-3 c = search needs
 
-mul-shift-down : tie.Need-mul-shift-down
-mul-shift-down c = search needs
-
 shift-down-requires-3 : tie.Need-shift-down-requires-3
 shift-down-requires-3 c κs =
     let s = c .before .before .before .before .before .before .before .before .before .before .before .before .before .before in
+    let h : length (s .args .self .counts) ≡ 200 = search needs in
+    omega (arith, s .pre)
+
+slice-aggregate-shift-down-4 : tie.Need-slice-aggregate-shift-down-4
+slice-aggregate-shift-down-4 c = search needs
+
+mul-shift-down : tie.Need-mul-shift-down
+mul-shift-down c = search needs
+
+shift-down-requires-4 : tie.Need-shift-down-requires-4
+shift-down-requires-4 c κs =
+    let s = c .before .before .before .before .before .before .before .before .before .before .before .before .before .before .before .before .before .before in
     let h : length (s .args .self .lists) ≡ 4800 = search needs in
     omega (arith, s .pre)
 
-sub-t19 : tie.Need-sub-t19
-sub-t19 c = search needs
+sub-t22 : tie.Need-sub-t22
+sub-t22 c = search needs
 
 returns : tie.Need-returns
 returns c =
     simp (
-      c .before .before .before .before .before .before .before .before .before .before .before .before .before .before .shift-minutes .ensures,
-      c .before .before .before .before .before .before .before .before .before .before .shift-down .ensures,
-      c .before .before .before .before .before .before .shift-down2 .ensures,
-      c .before .before .shift-down3 .ensures,
+      c .before .before .before .before .before .before .before .before .before .before .before .before .before .before .before .before .before .before .shift-minutes .ensures,
+      c .before .before .before .before .before .before .before .before .before .before .before .before .before .before .shift-down .ensures,
+      c .before .before .before .before .before .before .before .before .before .before .shift-down2 .ensures,
+      c .before .before .before .before .before .before .shift-down3 .ensures,
+      c .before .before .shift-down4 .ensures,
     )
 
 pub removed-spec : {M : Type 1} → statement M
@@ -67,7 +77,9 @@ removed-spec =
     slice-aggregate-shift-down-2
     shift-down-requires-2
     slice-aggregate-shift-down-3
-    mul-shift-down
     shift-down-requires-3
-    sub-t19
+    slice-aggregate-shift-down-4
+    mul-shift-down
+    shift-down-requires-4
+    sub-t22
     returns)

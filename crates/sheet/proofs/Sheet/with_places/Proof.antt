@@ -1,26 +1,30 @@
 -- The invariant: the first b batches have their places.
 use Prim.Native.Nat.{_-_, _≤_}
 use mathlib.Core.Path.{_≡_}
+use mathlib.Core.Logic.{⊎-elim}
 use native.Mathlib.Omega.{arith}
 use lib.ListN.{length}
 use Rattle.sheet.specs.Represent.{bookOf}
 use Rattle.sheet.specs.View.{keptPlaces}
-use Rattle.sheet.proofs.SoundArrays.{few-batches, list-size}
+use Rattle.sheet.proofs.SoundArrays.{few-batches, list-size, waits-at, starts-at}
 use Rattle.theory.proofs.Enter.{Entered, entered-start}
-use Rattle.sheet.proofs.Placed.{kept-step, kept-end, kept-sound}
+use Rattle.sheet.proofs.Placed.{kept-step, kept-skip, kept-end, kept-sound}
 use borrow.Author.Needs.{needs}
 use Rattle.sheet.proofs.Sheet.with_places.Statement.{statement}
 use Rattle.sheet.proofs.Sheet.with_places.Tie as tie
 
 abbrev Inv-loop : tie.InvT-loop
-Inv-loop self x n counts lists places₀ b₀ places b =
+Inv-loop self x n started counts lists places₀ b₀ places b =
     (n ≤ 200) × Entered places₀ 0 (keptPlaces (bookOf self) x) n places b
 
 abbrev μ-loop : tie.MeasureT-loop
-μ-loop self x n counts lists places₀ b₀ places b = n - b
+μ-loop self x n started counts lists places₀ b₀ places b = n - b
 
 loop-holds : tie.Need-loop-holds Inv-loop μ-loop
-loop-holds c = (few-batches (c .before .before .before .args .self) (c .before .before .before .pre), entered-start)
+loop-holds c = (few-batches (c .before .before .before .before .args .self) (c .before .before .before .before .pre), entered-start)
+
+array-read-if1 : tie.Need-array-read-if1 Inv-loop μ-loop
+array-read-if1 c = search needs
 
 array-read-p : tie.Need-array-read-p Inv-loop μ-loop
 array-read-p c = search needs
@@ -39,10 +43,12 @@ cast-kept-in c = search needs
 
 kept-in-requires : tie.Need-kept-in-requires Inv-loop μ-loop
 kept-in-requires c κs =
-    let s = c .before .before .before .before .before .before in
+    let at-loop = c .before .before .before in
+    let s = at-loop .before .before .before .before .before in
     let l : length (s .args .self .lists) ≡ 4800 = search needs in
-    let w = list-size (s .args .self) (s .pre) (c .before .before .loop .b) (c .before .loop-test .taken) in
-    (w .0, omega (arith, w .1, c .before .before .loop .inv .0, c .before .loop-test .taken))
+    let h = c .before .before .loop-test .taken in
+    let w = list-size (s .args .self) (s .pre) (at-loop .loop .b) h in
+    (w .0, omega (arith, w .1, at-loop .loop .inv .0, h))
 
 array-write-places : tie.Need-array-write-places Inv-loop μ-loop
 array-write-places c = search needs
@@ -55,17 +61,21 @@ loop-less c = search needs
 
 loop-again : tie.Need-loop-again Inv-loop μ-loop
 loop-again c =
-    let s = c .before .before .before .before .before .before .before in
+    let at-loop = c .before .before in
+    let s = at-loop .before .before .before .before .before in
     let l : length (s .args .self .places) ≡ 200 = search needs in
-    let i = c .before .before .before .loop .inv in (
+    let i = at-loop .loop .inv in
+    let h = c .before .loop-test .taken in (
       i .0,
-      kept-step (s .args .self) (s .args .t2) (c .kept-in .result) (i .1) (omega (arith, i .0)) (c .before .before .loop-test .taken)
-          (c .kept-in .ensures),
+      ⊎-elim
+          (λ w. rw (w .3) (kept-step (s .args .self) (s .args .t2) (w .2 .result) (i .1) (omega (arith, i .0)) h (waits-at (s .args .self) (s .pre) _ (w .0 .taken)) (w .2 .ensures)))
+          (λ w. rw (w .1) (kept-skip (s .args .self) (s .args .t2) (i .1) (omega (arith, i .0)) h (starts-at (s .args .self) (s .pre) _ (w .0 .left))))
+          (c .if1 .came),
     )
 
 returns : tie.Need-returns Inv-loop μ-loop
 returns c =
-    let s = c .before .before .before .before .before in
+    let s = c .before .before .before .before .before .before in
     let q = kept-end (s .args .self) (s .args .t2) (s .pre) (c .before .loop .inv .1) (c .loop-test .left) in
     (q, rw q (kept-sound (s .args .self) (s .args .t2) (s .pre)))
 
@@ -76,6 +86,7 @@ with-places-spec =
     Inv-loop
     μ-loop
     loop-holds
+    array-read-if1
     array-read-p
     slice-aggregate-kept-in
     mul-kept-in

@@ -1,15 +1,17 @@
--- Length, place and count, each read in its turn and judged, and then the list.
+-- Length, place, mark and count, each read in its turn and judged, and then the list.
 use Prim.Native.Nat.{ℕ, _+_}
 use mathlib.Core.Path.{_≡_}
+use mathlib.Core.Bool.{Bool}
 use mathlib.Core.List.{List}
 use native.Mathlib.Omega.{arith}
 use borrow.Author.Needs.{needs}
-use lib.Dec.{leb}
+use borrow.Author.Tests.{le-leb, lt-leb}
+use lib.Dec.{leb, eqb}
 use lib.ListN.{drop}
 use Rattle.rules.specs.Fold.{_and_}
 use Rattle.rules.specs.Refusal.{badList}
 use Rattle.rules.specs.Sheet.{Batch, goodMinutes}
-use Rattle.rules.specs.Read.{Part, andThen, orRefuse, numberAt, placeAt, batchLine}
+use Rattle.rules.specs.Read.{Part, andThen, orRefuse, numberAt, placeAt, markAt, batchLine}
 use Rattle.sheet.specs.Lines.{lineList}
 use Rattle.fields.proofs.Reading.{NumberRead, field-number, field-none, place-number, place-none}
 use Rattle.sheet.proofs.Scan.{failed, passed, in-range}
@@ -24,8 +26,12 @@ abbrev whole : tie.Start → Part Batch
 whole b = batchLine (b .args .m) (drop (b .args .at) (text b))
 
 -- the line from its count on
-abbrev fromCount : ℕ → ℕ → ℕ → List ℕ → Part Batch
-fromCount m t p r = andThen (numberAt r) (λ c u. orRefuse (leb 1 c and leb c m) badList (lineList m t p c u))
+abbrev fromCount : ℕ → ℕ → ℕ → Bool → List ℕ → Part Batch
+fromCount m t p s r = andThen (numberAt r) (λ c u. orRefuse (leb 1 c and leb c m) badList (lineList m t p s c u))
+
+-- and from its mark on
+abbrev fromMark : ℕ → ℕ → ℕ → List ℕ → Part Batch
+fromMark m t p r = andThen (markAt r) (λ s u. fromCount m t p s u)
 
 -- the length was read
 abbrev start1 : tie.After-known-told → tie.Start
@@ -48,7 +54,7 @@ at2 c = start1 c .args .at + 6
 
 from-place : (c : tie.After-place-at) →
     let g = good1 c in
-    whole (start1 g) ≡ andThen (placeAt (drop (at2 g) (text (start1 g)))) (λ p u. fromCount (start1 g .args .m) (minutes-of g) p u)
+    whole (start1 g) ≡ andThen (placeAt (drop (at2 g) (text (start1 g)))) (λ p u. fromMark (start1 g .args .m) (minutes-of g) p u)
 unfolding batchLine goodMinutes
 from-place c =
     let e = c .before in
@@ -75,33 +81,65 @@ place-read c =
     place-number (text (start1 g)) (at2 g) (c .before .before .before .place-at .ensures) (c .before .p .given .1)
 
 -- the third field
-from-count : (c : tie.After-field-at2) →
+from-mark : (c : tie.After-field-at2) →
     let p = c .before in
-    whole (start2 p) ≡ fromCount (start2 p .args .m) (minutes-of (length-known p)) (place-of p) (drop (at3 p) (text (start2 p)))
-from-count c =
+    whole (start2 p) ≡ fromMark (start2 p .args .m) (minutes-of (length-known p)) (place-of p) (drop (at3 p) (text (start2 p)))
+from-mark c =
     let p = c .before in
     rw (from-place (p .before .before .before), place-read p .number)
 
--- the count was read
+-- the mark was read
 abbrev place-known : tie.After-known-told3 → tie.After-known-told2
 place-known c = c .before .before .before .before
 
-abbrev count-of : tie.After-known-told3 → ℕ
+abbrev start3 : tie.After-known-told3 → tie.Start
+start3 c = start2 (place-known c)
+
+abbrev mark-of : tie.After-known-told3 → ℕ
+mark-of c = c .before .v .given .0 .0
+
+abbrev at4 : tie.After-known-told3 → ℕ
+at4 c = at3 (place-known c) + 6
+
+mark-read : (c : tie.After-known-told3) →
+    let p = place-known c in
+    NumberRead (numberAt (drop (at3 p) (text (start2 p)))) (text (start2 p)) (at3 p) (mark-of c)
+mark-read c =
+    let p = place-known c in
+    field-number (text (start2 p)) (at3 p) (c .before .before .before .field-at2 .ensures) (c .before .v .given .1)
+
+-- it is good; the fourth field
+from-count : (c : tie.After-field-at3) →
+    let v = c .before .before in
+    let p = place-known v in
+    whole (start3 v)
+    ≡ fromCount (start3 v .args .m) (minutes-of (length-known p)) (place-of p) (eqb (mark-of v) 1) (drop (at4 v) (text (start3 v)))
+unfolding markAt
+from-count c =
+    let v = c .before .before in
+    rw (from-mark (v .before .before .before), mark-read v .number, le-leb (mark-of v) 1 (c .before .if2 .left))
+
+-- the count was read
+abbrev mark-known : tie.After-known-told4 → tie.After-known-told3
+mark-known c = c .before .before .before .before .before
+
+abbrev count-of : tie.After-known-told4 → ℕ
 count-of c = c .before .c .given .0 .0
 
-count-read : (c : tie.After-known-told3) →
-    let p = place-known c in
-    NumberRead (numberAt (drop (at3 p) (text (start2 p)))) (text (start2 p)) (at3 p) (count-of c)
+count-read : (c : tie.After-known-told4) →
+    let v = mark-known c in
+    NumberRead (numberAt (drop (at4 v) (text (start3 v)))) (text (start3 v)) (at4 v) (count-of c)
 count-read c =
-    let p = place-known c in
-    field-number (text (start2 p)) (at3 p) (c .before .before .before .field-at2 .ensures) (c .before .c .given .1)
+    let v = mark-known c in
+    field-number (text (start3 v)) (at4 v) (c .before .before .before .field-at3 .ensures) (c .before .c .given .1)
 
-judged : (c : tie.After-known-told3) →
-    let p = place-known c in
-    let m : ℕ = start2 p .args .m in
-    whole (start2 p) ≡
+judged : (c : tie.After-known-told4) →
+    let v = mark-known c in
+    let p = place-known v in
+    let m : ℕ = start3 v .args .m in
+    whole (start3 v) ≡
     orRefuse (leb 1 (count-of c) and leb (count-of c) m) badList
-    (lineList m (minutes-of (length-known p)) (place-of p) (count-of c) (drop (at3 p + 6) (text (start2 p))))
+    (lineList m (minutes-of (length-known p)) (place-of p) (eqb (mark-of v) 1) (count-of c) (drop (at4 v + 6) (text (start3 v))))
 judged c = rw (from-count (c .before .before .before), count-read c .number)
 
 field-at-requires : tie.Need-field-at-requires
@@ -157,17 +195,45 @@ add-third c = search needs
 field-at-requires-2 : tie.Need-field-at-requires-2
 field-at-requires-2 c κs = search needs
 
-enum-known-c : tie.Need-enum-known-c
-enum-known-c c = search needs
+enum-known-v : tie.Need-enum-known-v
+enum-known-v c = search needs
 
 refused-requires-4 : tie.Need-refused-requires-4
 refused-requires-4 c κs = search needs
 
 returns-4 : tie.Need-returns-4
+unfolding markAt
 returns-4 c =
     let f = c .before .before in
     let p = f .before in
-    rw (from-count f, field-none (text (start2 p)) (at3 p) (f .field-at2 .ensures) (c .before .match3 .keys2)) (c .refused4 .ensures)
+    rw (from-mark f, field-none (text (start2 p)) (at3 p) (f .field-at2 .ensures) (c .before .match3 .keys2)) (c .refused4 .ensures)
+
+refused-requires-5 : tie.Need-refused-requires-5
+refused-requires-5 c κs = search needs
+
+returns-5 : tie.Need-returns-5
+unfolding markAt
+returns-5 c =
+    let v = c .before .before in
+    rw (from-mark (v .before .before .before), mark-read v .number, lt-leb (mark-of v) 1 (c .before .if2 .taken)) (c .refused5 .ensures)
+
+add-fourth : tie.Need-add-fourth
+add-fourth c = search needs
+
+field-at-requires-3 : tie.Need-field-at-requires-3
+field-at-requires-3 c κs = search needs
+
+enum-known-c : tie.Need-enum-known-c
+enum-known-c c = search needs
+
+refused-requires-6 : tie.Need-refused-requires-6
+refused-requires-6 c κs = search needs
+
+returns-6 : tie.Need-returns-6
+returns-6 c =
+    let f = c .before .before in
+    let v = f .before .before in
+    rw (from-count f, field-none (text (start3 v)) (at4 v) (f .field-at3 .ensures) (c .before .match4 .keys2)) (c .refused6 .ensures)
 
 cast-within-2 : tie.Need-cast-within-2
 cast-within-2 c = search needs
@@ -175,31 +241,36 @@ cast-within-2 c = search needs
 within-requires-2 : tie.Need-within-requires-2
 within-requires-2 c κs = search needs
 
-refused-requires-5 : tie.Need-refused-requires-5
-refused-requires-5 c κs = search needs
+refused-requires-7 : tie.Need-refused-requires-7
+refused-requires-7 c κs = search needs
 
-returns-5 : tie.Need-returns-5
-returns-5 c = rw (judged (c .before .before .before), failed (c .before .before .within2 .ensures) (c .before .if2 .taken)) (c .refused5 .ensures)
+returns-7 : tie.Need-returns-7
+returns-7 c = rw (judged (c .before .before .before), failed (c .before .before .within2 .ensures) (c .before .if3 .taken)) (c .refused7 .ensures)
 
-add-fourth : tie.Need-add-fourth
-add-fourth c = search needs
+add-fifth : tie.Need-add-fifth
+add-fifth c = search needs
 
 cast-line-list : tie.Need-cast-line-list
 cast-line-list c =
-    let g = length-known (place-known (c .before .before)) in
-    let e = place-known (c .before .before) .before .before .before .before in
-    omega (arith, in-range (minutes-of g) 1440 (passed (e .before .within .ensures) (e .if1 .left)) .1)
+    let p = place-known (mark-known (c .before .before)) in
+    let e = p .before .before .before .before in
+    omega (arith, in-range (minutes-of (length-known p)) 1440 (passed (e .before .within .ensures) (e .if1 .left)) .1)
 
 cast-line-list-2 : tie.Need-cast-line-list-2
 cast-line-list-2 c = search needs
 
+cast-line-list-3 : tie.Need-cast-line-list-3
+cast-line-list-3 c = search needs
+
 line-list-requires : tie.Need-line-list-requires
 line-list-requires c κs =
-    let r = in-range (count-of (c .before .before)) _ (passed (c .before .within2 .ensures) (c .if2 .left)) in
-    (count-read (c .before .before) .room, start2 (place-known (c .before .before)) .pre .1, r .0, r .1)
+    let k = c .before .before in
+    let v = mark-known k in
+    let r = in-range (count-of k) _ (passed (c .before .within2 .ensures) (c .if3 .left)) in
+    (count-read k .room, start3 v .pre .1, k .before .before .before .before .if2 .left, r .0, r .1)
 
-returns-6 : tie.Need-returns-6
-returns-6 c = rw (judged (c .before .before .before), passed (c .before .before .within2 .ensures) (c .before .if2 .left)) (c .line-list .ensures)
+returns-8 : tie.Need-returns-8
+returns-8 c = rw (judged (c .before .before .before), passed (c .before .before .within2 .ensures) (c .before .if3 .left)) (c .line-list .ensures)
 
 pub batch-line-spec : {M : Type 1} → statement M
 batch-line-spec =
@@ -220,15 +291,23 @@ batch-line-spec =
     returns-3
     add-third
     field-at-requires-2
-    enum-known-c
+    enum-known-v
     refused-requires-4
     returns-4
-    cast-within-2
-    within-requires-2
     refused-requires-5
     returns-5
     add-fourth
+    field-at-requires-3
+    enum-known-c
+    refused-requires-6
+    returns-6
+    cast-within-2
+    within-requires-2
+    refused-requires-7
+    returns-7
+    add-fifth
     cast-line-list
     cast-line-list-2
+    cast-line-list-3
     line-list-requires
-    returns-6)
+    returns-8)

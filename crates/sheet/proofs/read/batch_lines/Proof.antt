@@ -12,11 +12,11 @@ use Rattle.sheet.proofs.read.batch_lines.Statement.{statement}
 use Rattle.sheet.proofs.read.batch_lines.Tie as tie
 
 abbrev Inv-loop : tie.InvT-loop
-Inv-loop s at m n calibrations minutes₀ places₀ counts₀ lists₀ next₀ i₀ minutes places counts lists next i =
-    BatchesSofar s at m n (take m calibrations) (held m i calibrations minutes places counts lists) next i
+Inv-loop s at m n calibrations minutes₀ places₀ started₀ counts₀ lists₀ next₀ i₀ minutes places started counts lists next i =
+    BatchesSofar s at m n (take m calibrations) (held m i calibrations minutes places started counts lists) next i
 
 abbrev μ-loop : tie.MeasureT-loop
-μ-loop s at m n calibrations minutes₀ places₀ counts₀ lists₀ next₀ i₀ minutes places counts lists next i = n - i
+μ-loop s at m n calibrations minutes₀ places₀ started₀ counts₀ lists₀ next₀ i₀ minutes places started counts lists next i = n - i
 
 abbrev text : tie.Start Inv-loop μ-loop → List ℕ
 text c = c .args .s .now
@@ -62,6 +62,9 @@ array-write-minutes c = room c
 
 array-write-places : tie.Need-array-write-places Inv-loop μ-loop
 array-write-places c = room c
+
+array-write-started : tie.Need-array-write-started Inv-loop μ-loop
+array-write-started c = room c
 
 array-write-counts : tie.Need-array-write-counts Inv-loop μ-loop
 array-write-counts c = room c
@@ -109,7 +112,7 @@ returns-3 c =
     let b : tie.Start Inv-loop μ-loop = c .before .before .before .before in
     let e : b .args .n ≡ c .before .before .loop .i = omega (arith, c .before .before .loop .inv .few, c .before .loop-test .left) in
     let l = c .before .before .loop in
-    ap (λ (k : ℕ). record { refusal = Nothing; line = 0; sheet = held (b .args .m) k (b .args .calibrations) (l .minutes) (l .places) (l .counts) (l .lists) }) e
+    ap (λ (k : ℕ). record { refusal = Nothing; line = 0; sheet = held (b .args .m) k (b .args .calibrations) (l .minutes) (l .places) (l .started) (l .counts) (l .lists) }) e
     ∙ all-read (text b) (b .args .at) (b .args .m) (b .args .n) _ _ _ _ (l .inv) (c .before .loop-test .left) (c .if1 .left)
 
 pub batch-lines-spec : {M : Type 1} → statement M
@@ -127,6 +130,7 @@ batch-lines-spec =
     mul-minutes
     array-write-minutes
     array-write-places
+    array-write-started
     array-write-counts
     slice-aggregate-enter-part
     mul-enter-part

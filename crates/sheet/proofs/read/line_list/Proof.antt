@@ -1,36 +1,36 @@
 -- The invariant: k of the instruments are in the row, and what is left goes on from them as the rules do. Then the LF and the place.
 use Prim.Native.Nat.{ℕ, _+_, _-_, _≤_, _<_}
 use mathlib.Core.Path.{_≡_, refl, sym, ap, _∙_}
-use mathlib.Core.Bool.{true}
+use mathlib.Core.Bool.{Bool, true}
 use mathlib.Core.List.{List, []}
 use native.Mathlib.Omega.{arith}
 use borrow.Author.Needs.{needs}
-use borrow.Author.Tests.{not-true, not-false}
 use lib.Dec.{leb, eqb}
 use lib.ListN.{length, take, drop}
 use lib.Seq.{getD-take}
-use Rattle.rules.specs.Fold.{_and_, _or_, mem}
+use Rattle.rules.specs.Fold.{_and_, mem, every}
 use Rattle.rules.specs.Refusal.{badPlace}
 use Rattle.rules.specs.Sheet.{Batch, isInstrument}
-use Rattle.rules.specs.Read.{Part, gives, orRefuse, numberAt, endOfLine, instrumentsAt, placeOr}
+use Rattle.rules.specs.Read.{Part, gives, orRefuse, numberAt, endOfLine, instrumentsAt, placeOr, goodPlace}
 use Rattle.theory.proofs.Member.{every-mem}
 use Rattle.theory.proofs.Parse.{instruments-ranged}
+use Rattle.theory.proofs.Format.{mark-said}
 use Rattle.sheet.specs.Represent.{padded}
 use Rattle.fields.specs.Columns.{endsLine}
 use Rattle.sheet.specs.Lines.{lineList}
 use Rattle.fields.proofs.Reading.{NumberRead, field-number, field-none, end-room, end-missing, end-there, next-at}
-use Rattle.sheet.proofs.Lines.{Row, row-used, row-padded, row-more, row-take, place-taken, place-listed, list-missing, list-strange, list-again, list-more, instrument-most, list-start, list-done}
+use Rattle.sheet.proofs.Lines.{Row, row-used, row-padded, row-more, row-take, taken, place-listed, place-taken, list-missing, list-strange, list-again, list-more, instrument-most, list-start, list-done}
 use Rattle.sheet.proofs.Scan.{failed, passed, in-range}
 use Rattle.sheet.proofs.read.line_list.Statement.{statement}
 use Rattle.sheet.proofs.read.line_list.Tie as tie
 
 abbrev Inv-loop : tie.InvT-loop
-Inv-loop s at line m minutes place count list₀ k₀ next₀ list k next =
+Inv-loop s at line m minutes place started count list₀ k₀ next₀ list k next =
     (k ≤ count) × (next ≤ length s) × Row k list
     × (instrumentsAt m (count - k) (take k list) (drop next s) ≡ instrumentsAt m count [] (drop at s))
 
 abbrev μ-loop : tie.MeasureT-loop
-μ-loop s at line m minutes place count list₀ k₀ next₀ list k next = count - k
+μ-loop s at line m minutes place started count list₀ k₀ next₀ list k next = count - k
 
 abbrev text : tie.At-loop Inv-loop μ-loop → List ℕ
 text t = t .before .before .args .s .now
@@ -60,15 +60,19 @@ ranged c = passed (c .before .within .ensures) (c .if1 .left)
 
 -- ---- after the loop
 
+-- the batch has started
+abbrev begun : tie.Start Inv-loop μ-loop → Bool
+begun b = eqb (b .args .started) 1
+
 -- the rest of the line by the rules
 abbrev whole : tie.Start Inv-loop μ-loop → Part Batch
-whole b = lineList (b .args .m) (b .args .minutes) (b .args .place) (b .args .count) (drop (b .args .at) (b .args .s .now))
+whole b = lineList (b .args .m) (b .args .minutes) (b .args .place) (begun b) (b .args .count) (drop (b .args .at) (b .args .s .now))
 
 -- what the line gives, with the list l, where the rest of the sheet is r
 abbrev judged : tie.Start Inv-loop μ-loop → List ℕ → List ℕ → Part Batch
 judged b l r =
-    orRefuse (eqb (b .args .place) 0 or mem (b .args .place) l) badPlace
-    (gives (record { minutes = b .args .minutes; list = l; place = placeOr (b .args .place) l }) r)
+    orRefuse (goodPlace (begun b) (b .args .place) l) badPlace
+    (gives (record { minutes = b .args .minutes; list = l; place = placeOr (b .args .place) l; started = begun b }) r)
 
 -- the list was read
 abbrev list-of : tie.After-loop Inv-loop μ-loop → List ℕ
@@ -118,19 +122,36 @@ good c = c .before .before .before
 abbrev done : tie.After-listed2 Inv-loop μ-loop → tie.After-loop Inv-loop μ-loop
 done c = good c .before .before
 
-taken : (c : tie.After-listed2 Inv-loop μ-loop) → c .before .before .place-or .result ≡ placeOr (done c .before .before .before .args .place) (list-of (done c))
-taken c =
+chosen : (c : tie.After-listed2 Inv-loop μ-loop) →
+    let b = done c .before .before .before in
+    c .before .before .place-or .result ≡ taken (begun b) (b .args .place) (list-of (done c))
+chosen c =
     let t = done c .before in
     let b = t .before .before in
-    c .before .before .place-or .ensures ∙ sym (place-taken (b .args .place) (list-of (done c)) ∙ rw (getD-take (b .args .count) (t .loop .list) 0 0 (b .pre .2)))
+    c .before .before .place-or .ensures ∙ rw (getD-take (b .args .count) (t .loop .list) 0 0 (b .pre .3))
 
 test : (c : tie.After-listed2 Inv-loop μ-loop) →
-    let p = done c .before .before .before .args .place in
-    c .listed2 .result ≡ eqb p 0 or mem p (list-of (done c))
+    let b = done c .before .before .before in
+    c .listed2 .result ≡ goodPlace (begun b) (b .args .place) (list-of (done c))
 test c =
     let l = list-of (done c) in
     let b = done c .before .before .before in
-    c .listed2 .ensures ∙ ap (λ (q : ℕ). mem q l) (taken c) ∙ sym (place-listed (b .args .place) l (omega (arith, list-size (done c), b .pre .2)))
+    c .listed2 .ensures
+    ∙ ap (λ (q : ℕ). mem q l) (chosen c)
+    ∙ sym (place-listed (begun b) (b .args .place) l (omega (arith, list-size (done c), b .pre .3)))
+
+instruments : (c : tie.After-loop Inv-loop μ-loop) → every (isInstrument (c .before .before .before .args .m)) (list-of c) ≡ true
+instruments c = instruments-ranged _ _ _ _ _ (part c)
+
+-- it is the rules' where it is listed
+place-is : (c : tie.Else4 Inv-loop μ-loop) →
+    let d = done (c .before) in
+    c .before .before .before .place-or .result ≡ placeOr (d .before .before .before .args .place) (list-of d)
+place-is c =
+    let l = c .before in
+    let d = done l in
+    let b = d .before .before .before in
+    chosen l ∙ place-taken (begun b) (b .args .m) (b .args .place) (list-of d) (instruments d) (passed (test l) (c .if4 .left))
 
 loop-holds : tie.Need-loop-holds Inv-loop μ-loop
 loop-holds c = (omega arith, omega arith, record { size = refl; rest = refl }, list-start _ _ _ _)
@@ -243,21 +264,20 @@ refused-requires-5 c κs = search needs
 returns-5 : tie.Need-returns-5 Inv-loop μ-loop
 returns-5 c =
     let l = c .before .before in
-    rw (part2 (good l), sym (test l) ∙ not-true _ (c .before .if4 .taken)) (c .refused5 .ensures)
+    rw (part2 (good l), failed (test l) (c .before .if4 .taken)) (c .refused5 .ensures)
 
-cast-t31 : tie.Need-cast-t31 Inv-loop μ-loop
-cast-t31 c =
+cast-t32 : tie.Need-cast-t32 Inv-loop μ-loop
+cast-t32 c =
     let l = c .before in
-    let t = done l .before in
-    let b = t .before .before in
-    let e = every-mem (isInstrument (b .args .m)) (list-of (done l)) _ (instruments-ranged _ _ _ _ _ (part (done l))) (passed (l .listed2 .ensures) (c .if4 .left)) in
+    let b = done l .before .before .before in
+    let e = every-mem (isInstrument (b .args .m)) (list-of (done l)) _ (instruments (done l)) (passed (l .listed2 .ensures) (c .if4 .left)) in
     omega (arith, instrument-most (b .args .m) _ e, b .pre)
 
-cast-t36 : tie.Need-cast-t36 Inv-loop μ-loop
-cast-t36 c = search needs
+cast-t37 : tie.Need-cast-t37 Inv-loop μ-loop
+cast-t37 c = search needs
 
-add-t38 : tie.Need-add-t38 Inv-loop μ-loop
-add-t38 c =
+add-t39 : tie.Need-add-t39 Inv-loop μ-loop
+add-t39 c =
     let t = done (c .before) .before in
     omega (arith, end-room (text t) (t .loop .next) (ends (good (c .before))))
 
@@ -267,8 +287,9 @@ returns-6 c =
     let t = done l .before in
     rw (
       part2 (good l),
-      sym (test l) ∙ not-false _ (c .if4 .left),
-      ← taken l,
+      passed (test l) (c .if4 .left),
+      ← place-is c,
+      mark-said (t .before .before .args .started) (t .before .before .pre .2),
       padded-list (done l),
       list-size (done l),
       ← next-at (text t) (t .loop .next + 1) (end-room (text t) (t .loop .next) (ends (good l))),
@@ -308,7 +329,7 @@ line-list-spec =
     listed-requires-2
     refused-requires-5
     returns-5
-    cast-t31
-    cast-t36
-    add-t38
+    cast-t32
+    cast-t37
+    add-t39
     returns-6)

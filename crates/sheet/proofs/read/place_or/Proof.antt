@@ -1,13 +1,20 @@
--- By whether p is 0.
+-- By whether the batch has started, and whether p is 0.
 use borrow.Author.Tests.{eq-eqb, ne-eqb}
+use Rattle.rules.specs.Fold.{_and_}
 use Rattle.sheet.proofs.read.place_or.Statement.{statement}
 use Rattle.sheet.proofs.read.place_or.Tie as tie
 
 returns : tie.Need-returns
-returns c = rw (eq-eqb _ 0 (c .if1 .taken))
+unfolding _and_
+returns c = rw (eq-eqb _ 1 (c .if1 .taken))
 
 returns-2 : tie.Need-returns-2
-returns-2 c = rw (ne-eqb _ 0 (c .if1 .left))
+unfolding _and_
+returns-2 c = rw (ne-eqb _ 1 (c .before .if1 .left), eq-eqb _ 0 (c .if2 .taken))
+
+returns-3 : tie.Need-returns-3
+unfolding _and_
+returns-3 c = rw (ne-eqb _ 1 (c .before .if1 .left), ne-eqb _ 0 (c .if2 .left))
 
 pub place-or-spec : {M : Type 1} → statement M
-place-or-spec = tie.close (tie.spec returns returns-2)
+place-or-spec = tie.close (tie.spec returns returns-2 returns-3)

@@ -7,7 +7,7 @@ use Rattle.sheet.proofs.view.mark_row.Statement.{statement}
 use Rattle.sheet.proofs.view.mark_row.Tie as tie
 
 abbrev Inv-loop : tie.InvT-loop
-Inv-loop marks₀ at lists count j₀ marks j = Marked marks₀ at lists count marks j
+Inv-loop marks₀ at lists count j₀ marks j = Marked marks₀ at lists at count marks j
 
 abbrev μ-loop : tie.MeasureT-loop
 μ-loop marks₀ at lists count j₀ marks j = count - j

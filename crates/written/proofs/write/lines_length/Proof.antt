@@ -9,7 +9,7 @@ use Rattle.written.proofs.write.lines_length.Statement.{statement}
 use Rattle.written.proofs.write.lines_length.Tie as tie
 
 abbrev Inv-loop : tie.InvT-loop
-Inv-loop counts n sum₀ b₀ sum b = (sum ≡ linesLength counts b) × (b ≤ n) × (sum ≤ 1549 * b)
+Inv-loop counts n sum₀ b₀ sum b = (sum ≡ linesLength counts b) × (b ≤ n) × (sum ≤ 1555 * b)
 
 abbrev μ-loop : tie.MeasureT-loop
 μ-loop counts n sum₀ b₀ sum b = n - b

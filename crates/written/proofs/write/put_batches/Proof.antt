@@ -12,27 +12,27 @@ use Rattle.written.proofs.write.put_batches.Statement.{statement}
 use Rattle.written.proofs.write.put_batches.Tie as tie
 
 abbrev Inv-loop : tie.InvT-loop
-Inv-loop out₀ start n minutes places counts lists at₀ b₀ out at b =
-    Wrote out₀ start (linesTo minutes places counts lists b) (linesLength counts b) out × (length out ≡ length out₀) × (b ≤ n)
+Inv-loop out₀ start n minutes places started counts lists at₀ b₀ out at b =
+    Wrote out₀ start (linesTo minutes places started counts lists b) (linesLength counts b) out × (length out ≡ length out₀) × (b ≤ n)
     × (at ≡ start + linesLength counts b)
 
 abbrev μ-loop : tie.MeasureT-loop
-μ-loop out₀ start n minutes places counts lists at₀ b₀ out at b = n - b
+μ-loop out₀ start n minutes places started counts lists at₀ b₀ out at b = n - b
 
 loop-holds : tie.Need-loop-holds Inv-loop μ-loop
 loop-holds c =
-    let a = c .before .before .before .before .before .args in
+    let a = c .before .before .before .before .before .before .args in
     let z = length-none (a .counts .now) in
-    rw (z, lines-none (a .minutes .now) (a .places .now) (a .counts .now) (a .lists .now))
+    rw (z, lines-none (a .minutes .now) (a .places .now) (a .started .now) (a .counts .now) (a .lists .now))
     (wrote-none (a .out .now) (a .start) (omega arith), refl, omega arith, omega arith)
 
 -- the rows, and how many instruments the batch at hand has
 rows : (c : tie.Start Inv-loop μ-loop) → Rows (c .args .counts .now) (c .args .lists .now) (c .args .n)
-rows c = record { narrow = c .pre .1; long = c .pre .0 .5 }
+rows c = record { narrow = λ b h. c .pre .1 b h .1; long = c .pre .0 .6 }
 
-few : (c : tie.After-shared-slice-known5 Inv-loop μ-loop)
-    → getD (c .before .before .before .before .before .before .before .before .args .counts .now) (c .before .before .loop .b) 0 ≤ 24
-few c = c .before .before .before .before .before .before .before .before .pre .1 (c .before .before .loop .b) (c .before .loop-test .taken)
+few : (c : tie.After-shared-slice-known6 Inv-loop μ-loop) → let st = c .before .before .before .before .before .before .before .before .before in
+    (getD (st .args .started .now) (c .before .before .loop .b) 0 ≤ 1) × (getD (st .args .counts .now) (c .before .before .loop .b) 0 ≤ 24)
+few c = c .before .before .before .before .before .before .before .before .before .pre .1 (c .before .before .loop .b) (c .before .loop-test .taken)
 
 shared-slice-read-count : tie.Need-shared-slice-read-count Inv-loop μ-loop
 shared-slice-read-count c = omega arith
@@ -41,10 +41,10 @@ mul-from : tie.Need-mul-from Inv-loop μ-loop
 mul-from c = omega arith
 
 cast-end : tie.Need-cast-end Inv-loop μ-loop
-cast-end c = omega (arith, few c)
+cast-end c = omega (arith, few c .1)
 
 add-end : tie.Need-add-end Inv-loop μ-loop
-add-end c = omega (arith, few c)
+add-end c = omega (arith, few c .1)
 
 mul-put-batch : tie.Need-mul-put-batch Inv-loop μ-loop
 mul-put-batch c = omega arith
@@ -55,6 +55,9 @@ shared-slice-read-put-batch c = omega arith
 shared-slice-read-put-batch-2 : tie.Need-shared-slice-read-put-batch-2 Inv-loop μ-loop
 shared-slice-read-put-batch-2 c = omega arith
 
+shared-slice-read-put-batch-3 : tie.Need-shared-slice-read-put-batch-3 Inv-loop μ-loop
+shared-slice-read-put-batch-3 c = omega arith
+
 sub-put-batch : tie.Need-sub-put-batch Inv-loop μ-loop
 sub-put-batch c = omega arith
 
@@ -62,17 +65,17 @@ part-put-batch-start : tie.Need-part-put-batch-start Inv-loop μ-loop
 part-put-batch-start c = omega arith
 
 part-put-batch-end : tie.Need-part-put-batch-end Inv-loop μ-loop
-part-put-batch-end c = omega (arith, few (c .before .before .before))
+part-put-batch-end c = omega (arith, few (c .before .before .before .before) .1)
 
 put-batch-requires : tie.Need-put-batch-requires Inv-loop μ-loop
 put-batch-requires c κs =
-    let k = c .before .before .before .before in
+    let k = c .before .before .before .before .before in
     let l = k .before .before .loop in
-    let st = k .before .before .before .before .before .before .before .before in
+    let st = k .before .before .before .before .before .before .before .before .before in
     let counts = st .args .counts .now in
     let n = list-length (l .b) (rows st) (k .before .loop-test .taken) in
     rw (list-part counts (st .args .lists .now) (l .b), n)
-    (omega (arith, l .inv .1, l .inv .3, length-more counts (l .b), length-part counts (l .b + 1) (st .args .n) (omega arith), st .pre .0 .0), few k)
+    (omega (arith, l .inv .1, l .inv .3, length-more counts (l .b), length-part counts (l .b + 1) (st .args .n) (omega arith), st .pre .0 .0), few k .0, few k .1)
 
 line-length-requires : tie.Need-line-length-requires Inv-loop μ-loop
 line-length-requires c κs = search needs
@@ -89,14 +92,14 @@ loop-less c = omega arith
 loop-again : tie.Need-loop-again Inv-loop μ-loop
 loop-again c =
     let put = c .before .before .before in
-    let k = put .before .before .before .before .before in
+    let k = put .before .before .before .before .before .before in
     let l = k .before .before .loop in
-    let st = k .before .before .before .before .before .before .before .before in
+    let st = k .before .before .before .before .before .before .before .before .before in
     let a = st .args in
     let t = a .counts .now in
     let part = list-part t (a .lists .now) (l .b) in
     let w =
-    lines-more (a .minutes .now) (a .places .now) t (a .lists .now) (l .b) (l .at) (rows st) (k .before .loop-test .taken) (l .inv .0) (l .inv .3)
+    lines-more (a .minutes .now) (a .places .now) (a .started .now) t (a .lists .now) (l .b) (l .at) (rows st) (k .before .loop-test .taken) (l .inv .0) (l .inv .3)
     (st .pre .0 .0) (rw part at (put .put-batch .ensures)) in
     (w, wrote-length w, omega arith, omega (arith, l .inv .3, c .line-length .ensures .0, length-more t (l .b)))
 
@@ -106,10 +109,10 @@ same-length c = c .before .loop .inv .1
 returns : tie.Need-returns Inv-loop μ-loop
 returns c =
     let l = c .before .loop in
-    let a = c .before .before .before .before .before .before .before .args in
+    let a = c .before .before .before .before .before .before .before .before .args in
     let e : l .b ≡ a .n = omega arith in
     l .inv .0 .text
-    ∙ ap (λ (i : ℕ). paste (a .out .now) (a .start) (linesTo (a .minutes .now) (a .places .now) (a .counts .now) (a .lists .now) i) (linesLength (a .counts .now) i)) e
+    ∙ ap (λ (i : ℕ). paste (a .out .now) (a .start) (linesTo (a .minutes .now) (a .places .now) (a .started .now) (a .counts .now) (a .lists .now) i) (linesLength (a .counts .now) i)) e
 
 pub put-batches-spec : {M : Type 1} → statement M
 put-batches-spec =
@@ -125,6 +128,7 @@ put-batches-spec =
     mul-put-batch
     shared-slice-read-put-batch
     shared-slice-read-put-batch-2
+    shared-slice-read-put-batch-3
     sub-put-batch
     part-put-batch-start
     part-put-batch-end

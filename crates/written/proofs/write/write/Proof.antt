@@ -27,7 +27,7 @@ abbrev at-counts : tie.After-lines-length → tie.After-counts
 at-counts c = c .before .before
 
 abbrev at-length : tie.After-calibrations → tie.After-lines-length
-at-length c = c .before .before .before .before .before
+at-length c = c .before .before .before .before .before .before
 
 abbrev at-shown : tie.After-put-pair → tie.After-calibrations
 at-shown c = c .before .before
@@ -36,7 +36,7 @@ abbrev at-pair : tie.After-put-line → tie.After-put-pair
 at-pair c = c .before .before .before .before .before
 
 abbrev at-line : tie.After-lists2 → tie.After-put-line
-at-line c = c .before .before .before .before .before .before .before
+at-line c = c .before .before .before .before .before .before .before .before
 
 -- the numbers of line 1
 small : (c : tie.After-batches) → (c .before .instruments .result ≤ 24) × (c .batches .result ≤ 200)
@@ -101,6 +101,9 @@ minutes-requires c κs = search needs
 places-requires : tie.Need-places-requires
 places-requires c κs = search needs
 
+started-requires : tie.Need-started-requires
+started-requires c κs = search needs
+
 lists-requires : tie.Need-lists-requires
 lists-requires c κs = search needs
 
@@ -130,7 +133,7 @@ put-line-requires c κs =
     let shown = at-shown one in
     let r = row-is shown in
     let m = shown-small shown .0 in
-    (omega (arith, r, at-length shown .lines-length .ensures .0, shown .before .before .before .before .if1 .left, one .put-pair .kept .0), omega (arith, r, m))
+    (omega (arith, r, at-length shown .lines-length .ensures .0, shown .before .before .before .before .before .if1 .left, one .put-pair .kept .0), omega (arith, r, m))
 
 slice-aggregate-put-batches : tie.Need-slice-aggregate-put-batches
 slice-aggregate-put-batches c = search needs
@@ -144,6 +147,9 @@ slice-aggregate-put-batches-3 c = search needs
 slice-aggregate-put-batches-4 : tie.Need-slice-aggregate-put-batches-4
 slice-aggregate-put-batches-4 c = search needs
 
+slice-aggregate-put-batches-5 : tie.Need-slice-aggregate-put-batches-5
+slice-aggregate-put-batches-5 c = search needs
+
 put-batches-requires : tie.Need-put-batches-requires
 put-batches-requires c κs =
     let two = at-line c in
@@ -156,16 +162,17 @@ put-batches-requires c κs =
     let n = small b .1 in
     let e : l .lines-length .result ≡ linesLength (k .counts .result) (b .batches .result) = l .lines-length .ensures .0 in
     let room : 6 * b .before .instruments .result + 14 + linesLength (k .counts .result) (b .batches .result) ≤ length (two .put-line .last .0) =
-    omega (arith, e, shown .before .before .before .before .if1 .left, one .put-pair .kept .0, two .put-line .kept .0) in (
+    omega (arith, e, shown .before .before .before .before .before .if1 .left, one .put-pair .kept .0, two .put-line .kept .0) in (
       (
         room,
         n,
-        omega (arith, n, shown .before .before .before .minutes .ok),
-        omega (arith, n, shown .before .before .places .ok),
+        omega (arith, n, shown .before .before .before .before .minutes .ok),
+        omega (arith, n, shown .before .before .before .places .ok),
+        omega (arith, n, shown .before .before .started .ok),
         omega (arith, n),
         omega (arith, n, shown .before .lists .ok),
       ),
-      file-narrow (st .args .sheet) (st .pre) _ _ _ (b .before .instruments .ensures) (b .batches .ensures) (k .counts .ensures),
+      file-narrow (st .args .sheet) (st .pre) _ _ _ (b .before .instruments .ensures) (b .batches .ensures) (k .counts .ensures) _ (shown .before .before .started .ensures),
     )
 
 same-length : tie.Need-same-length
@@ -184,12 +191,12 @@ returns-2 c =
     let s = st .args .sheet in
     let e = l .lines-length .ensures .0 in
     let h =
-    held s (st .pre) _ _ _ _ _ _ _ (b .before .instruments .ensures) (b .batches .ensures) (shown .calibrations .ensures) (shown .before .before .before .minutes .ensures)
-    (shown .before .before .places .ensures) (k .counts .ensures) (shown .before .lists .ensures) in
+    held s (st .pre) _ _ _ _ _ _ _ _ (b .before .instruments .ensures) (b .batches .ensures) (shown .calibrations .ensures) (shown .before .before .before .before .minutes .ensures)
+    (shown .before .before .before .places .ensures) (shown .before .before .started .ensures) (k .counts .ensures) (shown .before .lists .ensures) in
     let t =
-    file-wrote s (st .pre) _ _ _ _ _ _ _ (st .args .out .now) _ _ _ h (omega (arith, e, shown .before .before .before .before .if1 .left)) (one .put-pair .ensures) (two .put-line .ensures)
+    file-wrote s (st .pre) _ _ _ _ _ _ _ _ (st .args .out .now) _ _ _ h (omega (arith, e, shown .before .before .before .before .before .if1 .left)) (one .put-pair .ensures) (two .put-line .ensures)
     (put .put-batches .ensures) in
-    into-long (written (bookOf s)) (st .args .out .now) _ _ (omega (arith, file-is l, shown .before .before .before .before .if1 .left)) (omega (arith, file-is l))
+    into-long (written (bookOf s)) (st .args .out .now) _ _ (omega (arith, file-is l, shown .before .before .before .before .before .if1 .left)) (omega (arith, file-is l))
     (t ∙ ap (λ (i : ℕ). written (bookOf s) ++ drop (6 * b .before .instruments .result + 14 + i) (st .args .out .now)) (sym e))
 
 pub write-spec : {M : Type 1} → statement M
@@ -207,6 +214,7 @@ write-spec =
     returns
     minutes-requires
     places-requires
+    started-requires
     lists-requires
     calibrations-requires
     cast-put-pair
@@ -219,6 +227,7 @@ write-spec =
     slice-aggregate-put-batches-2
     slice-aggregate-put-batches-3
     slice-aggregate-put-batches-4
+    slice-aggregate-put-batches-5
     put-batches-requires
     same-length
     returns-2)
