@@ -5,7 +5,7 @@
 
 PREFIX = /usr/local
 DESTDIR =
-PROGRAMS = bankplan bankrun bankwrite
+PROGRAMS = bankplan bankrun bankwrite banktake
 
 INCLUDE = $(DESTDIR)$(PREFIX)/include
 LIB = $(DESTDIR)$(PREFIX)/lib

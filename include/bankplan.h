@@ -1,23 +1,23 @@
 /*
  * The bank queue planner for hosts in C and C++ (Linux, x86-64).
  *
- * Five calls. bankplan_plan reads a sheet, plans it and writes the listing. bankplan_run reads a sheet, makes a list of calls on it, one
+ * Six calls. bankplan_plan reads a sheet, plans it and writes the listing. bankplan_run reads a sheet, makes a list of calls on it, one
  * after the other, and writes their answers. bankplan_write makes them too, and writes the sheet that they leave. bankplan_balance and
  * bankplan_settle are the two parts of planning, for a host that keeps its sheet as a file: each reads a sheet, fills a list with a
- * record of each batch that it moves, and writes the sheet that it leaves. All take any bytes and any lengths, and answer a refusal where
- * something is wrong.
+ * record of each batch that it moves, and writes the sheet that it leaves. bankplan_take makes a sheet of a worklist, which is a file of
+ * comma-separated values from the sample system. All take any bytes and any lengths, and answer a refusal where something is wrong.
  *
  * What a host owes on each call:
- *   - Every pointer is valid for its length: so many bytes of a sheet or a journal may be read, so many bytes of the lent buffer, which
- *     comes last, and so many entries of the lent list may be written.
+ *   - Every pointer is valid for its length: so many bytes of a sheet, a journal or a worklist and so many entries of the calibrations may
+ *     be read, so many bytes of the lent buffer, which comes last, and so many entries of the lent list may be written.
  *   - No pointer is null, not even beside a length of 0. Any valid pointer will do there.
- *   - The lent buffer and the lent list overlap neither each other nor the sheet nor the journal, and no other thread uses them until the
- *     call returns. Nothing writes to the sheet or the journal meanwhile.
- *   - The thread has 128 kB of stack left. (Calls were measured at 113 kB; this is not proved.)
+ *   - The lent buffer and the lent list overlap neither each other nor anything that is read, and no other thread uses them until the
+ *     call returns. Nothing writes meanwhile to what is read.
+ *   - The thread has 128 kB of stack left. (Calls were measured at 109 kB; this is not proved.)
  *
  * What the library promises:
- *   - It reads only the sheet and the journal, and writes only to the lent buffer and the lent list, at their fronts. Bytes past the text
- *     and entries past the records keep their values.
+ *   - It reads only the sheet and the journal, or the calibrations and the worklist, and writes only to the lent buffer and the lent list,
+ *     at their fronts. Bytes past the text and entries past the records keep their values.
  *   - A refusal writes nothing at all.
  *   - Every call ends. It keeps no pointer and nothing from one call to the next, allocates nothing, opens no file and prints nothing, so
  *     calls may be made from several threads at once.
@@ -25,7 +25,7 @@
  *
  * Numbers in a sheet, a journal and every text are decimal, each in six columns with blanks before it; only the settling moves have
  * twelve columns. Zero is the one digit 0, and no other number starts with 0. Every line ends in one LF. Six blanks stand for no number: a
- * sheet may have them for a place, and nowhere else; a journal has none.
+ * sheet may have them for a place, and nowhere else; a journal has none. A worklist has a form of its own (see bankplan_take).
  *
  * An instrument is calibrated after it is switched on, whether or not a batch is run on it. A calibration above 0 counts as a batch that only
  * its own instrument may run: in loads, finish, floor and total minutes, as the longest, and in a trial's raises and bumps. It is no batch
@@ -56,12 +56,16 @@ extern "C" {
 /* No line of an answer has more bytes, its LF included: so many for each line of the journal are always enough for bankplan_run. */
 #define BANKPLAN_LONGEST_ANSWER 3793
 
-/* The largest written sheet in bytes: a buffer of this size is never too short for bankplan_write, bankplan_balance and bankplan_settle. */
+/*
+ * The largest written sheet in bytes: a buffer of this size is never too short for bankplan_write, bankplan_balance, bankplan_settle and
+ * bankplan_take.
+ */
 #define BANKPLAN_LARGEST_SHEET 33958
 
 /*
- * Refusals. 1 to 5 and 10 are those of a sheet, and come with the line. 3 to 9 and 11 are those of a single call of a journal: they stand in
- * its answers, and the run goes on. 9 and 19 are the host's own.
+ * Refusals. 1 to 5 and 10 are those of a sheet, and come with the line. 12 is that of a worklist, and comes with the row; its batches get 1
+ * and 3 to 5 with theirs, and 2 and 10 come without one there. 3 to 9 and 11 are those of a single call of a journal: they stand in its answers, and the run goes on. 9 and 19
+ * are the host's own.
  */
 enum bankplan_refusal {
     BANKPLAN_NO_REFUSAL = 0,
@@ -75,15 +79,17 @@ enum bankplan_refusal {
     BANKPLAN_SHEET_FULL = 7,       /* a batch more than 200 */
     BANKPLAN_LEVEL_ABOVE = 8,      /* a trial's level above the total minutes */
     BANKPLAN_BUFFER_SHORT = 9,     /* the lent buffer is shorter than the text, or the list for records has fewer entries than batches */
-    BANKPLAN_BAD_CALIBRATION = 10, /* a calibration that is not 0 to 240 minutes */
+    BANKPLAN_BAD_CALIBRATION = 10, /* a calibration that is not 0 to 240 minutes, or not one for each instrument of a worklist */
     BANKPLAN_HAS_STARTED = 11,     /* the batch to withdraw, requalify, move or start has started */
+    BANKPLAN_BAD_WORKLIST = 12,    /* the worklist is not of RFC 4180, or a row has not four fields of the form */
     BANKPLAN_BAD_JOURNAL = 19      /* the journal is not of its form */
 };
 
-/* What bankplan_plan, bankplan_run and bankplan_write answer. */
+/* What bankplan_plan, bankplan_run, bankplan_write and bankplan_take answer. */
 typedef struct bankplan_answer {
-    uint32_t refusal; /* 0 for none, 1 to 5, 9, or 10; with a journal also 19 */
-    size_t line;      /* the sheet's line of refusals 1 to 5 and 10, the journal's of 19, both from 1; otherwise 0 */
+    uint32_t refusal; /* 0 for none, 1 to 5, 9, or 10; with a journal also 19, with a worklist also 12 */
+    size_t line;      /* the sheet's line of refusals 1 to 5 and 10, the journal's of 19, both from 1; otherwise 0. With a worklist the
+                         row of refusals 1, 3 to 5 and 12, from 1 and for 12 maybe far above 200; otherwise 0 */
     size_t length;    /* the bytes written; 0 on a refusal */
 } bankplan_answer;
 
@@ -213,6 +219,30 @@ bankplan_balanced bankplan_balance(const uint8_t *sheet, size_t sheet_length, ba
  */
 bankplan_settled bankplan_settle(const uint8_t *sheet, size_t sheet_length, bankplan_move *moves, size_t moves_length,
                                  uint8_t *written, size_t written_length);
+
+/*
+ * Takes a worklist for a bank of so many instruments with these calibrations, instrument 1's first, and writes its sheet, in the form of
+ * bankplan_write, at the front of the lent buffer. The length of the calibrations counts entries.
+ *
+ * A worklist is a CSV file as RFC 4180 defines it, and its first row is a batch already. Each batch has a row of four fields:
+ *
+ *   LENGTH,PLACE,MARK,LIST        30,1,0,"1,2"    30 minutes, on instrument 1, not started, for instruments 1 and 2
+ *
+ * These are what they are in a sheet's line, but for the list, which has no count and is its instruments with commas between them: one at
+ * least. The place may be empty or 0: the first listed instrument. A number is one to six digits, and only 0 itself starts with 0. Any
+ * field may stand in quotes, and a list of more than one must. Spaces, signs and all else are no part of a number. Rows end in CRLF, which
+ * the last may leave out. An empty file counts as a row whose only field is empty: no worklist is without a batch.
+ *
+ * The sheet is the one that reading a sheet with the same numbers gives, written back: it can be read, and every place in it is given.
+ *
+ * The order of refusals: 2 for instruments that are not 1 to 24; 10 for a calibration above 240, or if there are not as many as
+ * instruments; 12 at the first row that is not of the form, whichever it is; 2 for more than 200 rows; then row by row, as in a sheet's
+ * line, 3 for the length, 1 for a mark above 1, 4 for the list, 5 for the place; then 9. Both 2s, 10 and 9 have line 0. The whole file is
+ * judged for 12 first: 12 at row 202 comes before 2 for more than 200 rows, and before 3 at row 1. A list of any length is of the form, and
+ * 4 where it has more instruments than there are.
+ */
+bankplan_answer bankplan_take(uint32_t instruments, const uint32_t *calibrations, size_t calibrations_length,
+                              const uint8_t *worklist, size_t worklist_length, uint8_t *sheet, size_t sheet_length);
 
 #ifdef __cplusplus
 }

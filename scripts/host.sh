@@ -1,6 +1,6 @@
 #!/usr/bin/env bash
-# The static library from C: builds examples/host.c and tests/c/boundary.c against it in a temporary folder, runs the one on the stored
-# files and on bad ones, and the other. Needs gcc, and target/staticlib/libbankplan.a, which `make` builds.
+# The static library from C: builds examples/host.c, examples/take.c and tests/c/boundary.c against it in a temporary folder, runs the first
+# two on the stored files and on bad ones, and the third. Needs gcc, and target/staticlib/libbankplan.a, which `make` builds.
 set -euo pipefail
 cd "$(dirname "$0")/.."
 
@@ -14,7 +14,7 @@ command -v gcc >/dev/null 2>&1 || fail "the command gcc is missing"
 
 work=$(mktemp -d)
 trap 'rm -rf "$work"' EXIT
-for source in examples/host.c tests/c/boundary.c; do
+for source in examples/host.c examples/take.c tests/c/boundary.c; do
     gcc -std=c11 -O2 -Wall -Wextra -Werror -Iinclude -o "$work/$(basename "$source" .c)" "$source" target/staticlib/libbankplan.a
 done
 
@@ -51,13 +51,26 @@ head -n 5 "$work/out" | diff examples/started-listing.txt - >&2 || fail "the exa
 [ "$(grep -c '^midday: finish 50, settling moves 1$' "$work/out")" = 1 ] || fail "the example settles a sheet with a started batch in another way"
 [ "$(grep -c '^    30     1     1     2     1     2$' "$work/out")" = 2 ] || fail "the example loses or moves the started batch"
 
-# refused TEXT WORDS..: the example on these files ends with 1, and TEXT is all that it says
+# the worklist says what the sheet says: the same sheet and the same listing; and with a calibration what the calibrated sheet says
+cat examples/sheet.txt <(echo) <(head -n 5 examples/expected.txt) >"$work/due"
+"$work/take" examples/worklist.csv 0 0 >"$work/out" || fail "the second example did not end well"
+diff "$work/due" "$work/out" >&2 || fail "the second example makes another sheet or listing of examples/worklist.csv"
+cat examples/calibrated.txt <(echo) "$work/listing" >"$work/due"
+"$work/take" examples/worklist.csv 20 0 >"$work/out" || fail "the second example did not end well with a calibration"
+diff "$work/due" "$work/out" >&2 || fail "the second example makes another sheet or listing with a calibration"
+
+# refused_by PROGRAM TEXT WORDS..: that example with these words ends with 1, and TEXT is all that it says
+refused_by() {
+    local program=$1 said=$2 status=0
+    shift 2
+    "$work/$program" "$@" >"$work/out" 2>"$work/said" || status=$?
+    [ "$status" = 1 ] || fail "the example $program on $* ended with $status"
+    [ "$(cat "$work/said")" = "$said" ] || fail "the example $program on $* said: $(cat "$work/said")"
+}
+
+# refused TEXT WORDS..: the same for the first example
 refused() {
-    local said=$1 status=0
-    shift
-    "$work/host" "$@" >"$work/out" 2>"$work/said" || status=$?
-    [ "$status" = 1 ] || fail "the example on $* ended with $status"
-    [ "$(cat "$work/said")" = "$said" ] || fail "the example on $* said: $(cat "$work/said")"
+    refused_by host "$@"
 }
 
 cd "$work"
@@ -110,5 +123,20 @@ for name in sheet calibrated blank started; do
 done
 refused "host: none: No such file or directory" none journal
 
+# worklists that are not of the form: LF for CRLF, no quotes about a list, a field too few; and of which the sheet would be refused
+sed 's/\r$//' "$top/examples/worklist.csv" >unix.csv
+cmp -s "$top/examples/worklist.csv" unix.csv && fail "examples/worklist.csv has no CRLF"
+refused_by take "take: unix.csv: row 1: not of a worklist's form" unix.csv 0 0
+[ ! -s out ] || fail "the second example prints something for a refused worklist"
+tr -d '"' <"$top/examples/worklist.csv" >unquoted.csv
+refused_by take "take: unquoted.csv: row 1: not of a worklist's form" unquoted.csv 0 0
+sed '3s/,"0"//' "$top/examples/worklist.csv" >short.csv
+refused_by take "take: short.csv: row 3: not of a worklist's form" short.csv 0 0
+sed '2s/20/0/' "$top/examples/worklist.csv" >length.csv
+refused_by take "take: length.csv: row 2: refusal 3" length.csv 0 0
+refused_by take "take: $top/examples/worklist.csv: row 1: refusal 4" "$top/examples/worklist.csv" 0
+refused_by take "take: $top/examples/worklist.csv: refusal 10" "$top/examples/worklist.csv" 0 241
+refused_by take "take: none.csv: No such file or directory" none.csv 0 0
+
 ./boundary || fail "the calls are not as they should be at their edges"
-echo "host: the example's output is as stored, and the calls are as they should be at their edges"
+echo "host: the examples' output is as stored, and the calls are as they should be at their edges"

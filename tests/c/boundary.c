@@ -1,7 +1,7 @@
 /*
- * The five calls at their edges, from C: refused sheets, malformed journals, buffers and lists that are too short, that just fit and that
- * are longer, bytes at odd places, and the largest texts. Ends with 0 where all is as it should be; otherwise says each line that is not,
- * and ends with 1.
+ * The six calls at their edges, from C: refused sheets, malformed journals and worklists, buffers and lists that are too short, that just
+ * fit and that are longer, bytes at odd places, and the largest texts. Ends with 0 where all is as it should be; otherwise says each line
+ * that is not, and ends with 1.
  */
 #include <stddef.h>
 #include <stdint.h>
@@ -88,6 +88,15 @@ static bankplan_settled settle(const char *sheet, size_t entries, size_t room)
     return bankplan_settle((const uint8_t *)sheet, strlen(sheet), list, entries, buffer, room);
 }
 
+static const uint32_t zeros[BANKPLAN_MOST_INSTRUMENTS + 1];
+
+/* Takes a worklist for so many instruments without calibrations. */
+static bankplan_answer take(uint32_t instruments, const char *worklist, size_t room)
+{
+    memset(buffer, UNTOUCHED, ROOM);
+    return bankplan_take(instruments, zeros, instruments, (const uint8_t *)worklist, strlen(worklist), buffer, room);
+}
+
 /* The list has these records, and past them nothing was written. */
 static int lists(const bankplan_move *records, size_t count)
 {
@@ -172,6 +181,10 @@ static const char unsettled[] = "     2     4\n"
                                 "     5     1     0     2     2     1\n"
                                 "     2     2     0     2     1     2\n";
 static const bankplan_move two_go[] = {{2, 1, 2}, {4, 2, 1}};
+/* says what the first sheet says */
+static const char worklist[] = "30,1,0,\"1,2\"\r\n"
+                               "\"20\",,0,1\r\n"
+                               "10,\"1\",\"0\",\"1,2\"\r\n";
 
 static void sheets(void)
 {
@@ -311,6 +324,63 @@ static void started(void)
     CHECK(answered(plan("     2     1\n     0     0\n    10     1     1     1\n", ROOM), BANKPLAN_MALFORMED, 3, 0) && holds(""));
 }
 
+/* Worklists: what is taken, each refusal, and which comes first. */
+static void worklists(void)
+{
+    static const uint32_t most[] = {240, 7, 241}, first[] = {241, 0}, last[] = {0, UINT32_MAX};
+    static const uint8_t row[] = "30,,0,\"2,1\"";
+    static const uint8_t zero[] = {'3', '0', ',', ',', '0', ',', '1', 0};
+    static char rows[201 * 10 + 3];
+    size_t i;
+
+    CHECK(answered(take(2, worklist, ROOM), 0, 0, strlen(sheet)) && holds(sheet));
+    /* the last CRLF may be missing, but not half of it; another makes an empty row */
+    CHECK(answered(take(2, "30,1,1,\"1,2\"", ROOM), 0, 0, 63) && holds("     2     1\n     0     0\n    30     1     1     2     1     2\n"));
+    CHECK(answered(take(2, "30,1,0,1\r", ROOM), BANKPLAN_BAD_WORKLIST, 1, 0) && holds(""));
+    CHECK(answered(take(2, "30,1,0,1\r\n\r\n", ROOM), BANKPLAN_BAD_WORKLIST, 2, 0) && holds(""));
+    CHECK(answered(take(2, "30,1,0,1\n30,1,0,1\n", ROOM), BANKPLAN_BAD_WORKLIST, 1, 0) && holds(""));
+    CHECK(answered(take(2, "", ROOM), BANKPLAN_BAD_WORKLIST, 1, 0) && holds(""));
+    CHECK(answered(take(2, "\r\n", ROOM), BANKPLAN_BAD_WORKLIST, 1, 0) && holds(""));
+    /* quotes, fields and numbers */
+    CHECK(answered(take(2, "30,1,0,1\r\n30,1,0,\"1,2", ROOM), BANKPLAN_BAD_WORKLIST, 2, 0) && holds(""));
+    CHECK(answered(take(2, "30,1,0,\"1\"2\r\n", ROOM), BANKPLAN_BAD_WORKLIST, 1, 0) && holds(""));
+    CHECK(answered(take(2, "30,1,0,1,2\r\n", ROOM), BANKPLAN_BAD_WORKLIST, 1, 0) && holds(""));
+    CHECK(answered(take(2, "30,1,0,\"\"\r\n", ROOM), BANKPLAN_BAD_WORKLIST, 1, 0) && holds(""));
+    CHECK(answered(take(2, "30,01,0,1\r\n", ROOM), BANKPLAN_BAD_WORKLIST, 1, 0) && holds(""));
+    CHECK(answered(take(2, "1000000,1,0,1\r\n", ROOM), BANKPLAN_BAD_WORKLIST, 1, 0) && holds(""));
+    memset(buffer, UNTOUCHED, ROOM);
+    CHECK(answered(bankplan_take(1, zeros, 1, zero, 8, buffer, ROOM), BANKPLAN_BAD_WORKLIST, 1, 0) && holds(""));
+    CHECK(answered(bankplan_take(1, zeros, 1, zero, 7, buffer, ROOM), 0, 0, 51));
+    /* rows in the order of a sheet's line, after the whole file */
+    CHECK(answered(take(2, "0,9,2,3", ROOM), BANKPLAN_BAD_LENGTH, 1, 0) && holds(""));
+    CHECK(answered(take(2, "30,9,2,3", ROOM), BANKPLAN_MALFORMED, 1, 0) && holds(""));
+    CHECK(answered(take(2, "30,9,0,3", ROOM), BANKPLAN_BAD_LIST, 1, 0) && holds(""));
+    CHECK(answered(take(2, "30,1,0,1\r\n30,2,0,1", ROOM), BANKPLAN_BAD_PLACE, 2, 0) && holds(""));
+    CHECK(answered(take(2, "30,1,0,1\r\n30,,1,1", ROOM), BANKPLAN_BAD_PLACE, 2, 0) && holds(""));
+    CHECK(answered(take(2, "0,1,0,1\r\n30,1,0,1\r\n30", ROOM), BANKPLAN_BAD_WORKLIST, 3, 0) && holds(""));
+    /* more than 200 rows, before their faults and after one of the form */
+    for (i = 0; i < 201; i++)
+        memcpy(rows + 10 * i, "30,1,0,1\r\n", 10);
+    memcpy(rows, "30,1,0,9", 8);
+    CHECK(answered(take(1, rows, ROOM), BANKPLAN_BAD_SIZE, 0, 0) && holds(""));
+    strcpy(rows + 10 * 201, "30");
+    CHECK(answered(take(1, rows, ROOM), BANKPLAN_BAD_WORKLIST, 202, 0) && holds(""));
+    rows[10 * 200] = 0;
+    CHECK(answered(take(1, rows, ROOM), BANKPLAN_BAD_LIST, 1, 0) && holds(""));
+    memcpy(rows, "30,1,0,1", 8);
+    CHECK(answered(take(1, rows, ROOM), 0, 0, 13 + 7 + 200 * 31));
+    /* instruments first, then calibrations, then the file */
+    CHECK(answered(take(0, "", ROOM), BANKPLAN_BAD_SIZE, 0, 0) && holds(""));
+    CHECK(answered(take(25, worklist, ROOM), BANKPLAN_BAD_SIZE, 0, 0) && holds(""));
+    CHECK(answered(bankplan_take(UINT32_MAX, zeros, 0, row, sizeof row - 1, buffer, 0), BANKPLAN_BAD_SIZE, 0, 0) && holds(""));
+    CHECK(answered(bankplan_take(2, first, 2, row, 0, buffer, ROOM), BANKPLAN_BAD_CALIBRATION, 0, 0) && holds(""));
+    CHECK(answered(bankplan_take(2, last, 2, row, sizeof row - 1, buffer, 0), BANKPLAN_BAD_CALIBRATION, 0, 0) && holds(""));
+    CHECK(answered(bankplan_take(2, zeros, 1, row, sizeof row - 1, buffer, ROOM), BANKPLAN_BAD_CALIBRATION, 0, 0) && holds(""));
+    CHECK(answered(bankplan_take(2, most, 3, row, sizeof row - 1, buffer, ROOM), BANKPLAN_BAD_CALIBRATION, 0, 0) && holds(""));
+    CHECK(answered(bankplan_take(2, most, 2, row, sizeof row - 1, buffer, ROOM), 0, 0, 63) &&
+          holds("     2     1\n   240     7\n    30     2     0     2     2     1\n"));
+}
+
 static void short_buffers(void)
 {
     size_t room;
@@ -324,6 +394,12 @@ static void short_buffers(void)
     for (room = 0; room < strlen(written); room++)
         CHECK(answered(write_back(sheet, journal, room), BANKPLAN_BUFFER_SHORT, 0, 0) && holds(""));
     CHECK(answered(write_back(sheet, journal, strlen(written)), 0, 0, strlen(written)) && holds(written));
+    for (room = 0; room < strlen(sheet); room++)
+        CHECK(answered(take(2, worklist, room), BANKPLAN_BUFFER_SHORT, 0, 0) && holds(""));
+    CHECK(answered(take(2, worklist, strlen(sheet)), 0, 0, strlen(sheet)) && holds(sheet));
+    /* every other refusal comes before a short buffer */
+    CHECK(answered(take(2, "30", 0), BANKPLAN_BAD_WORKLIST, 1, 0) && holds(""));
+    CHECK(answered(take(2, "30,1,0,3", 0), BANKPLAN_BAD_LIST, 1, 0) && holds(""));
 }
 
 static void journals(void)
@@ -425,11 +501,12 @@ static void refused_files(void)
     CHECK(refused_balance(balance("     2     1\n     0     0\n    10     2     0     1     1\n", ENTRIES, ROOM), BANKPLAN_BAD_PLACE, 3));
 }
 
-/* Sheet and buffer start at any byte. */
+/* Sheet, worklist and buffer start at any byte. */
 static void odd_places(void)
 {
     static uint8_t bytes[sizeof planned + 8], text[sizeof planned + 8];
     size_t at, i, length = strlen(sheet);
+    bankplan_answer a;
     bankplan_balanced b;
     bankplan_settled z;
 
@@ -447,6 +524,14 @@ static void odd_places(void)
         for (i = 0; i < sizeof text; i++)
             CHECK((i >= 7 - at && i < 7 - at + z.length) || text[i] == UNTOUCHED);
         CHECK(memcmp(bytes + at, sheet, length) == 0);
+        memset(bytes, '9', sizeof bytes);
+        memcpy(bytes + at, worklist, strlen(worklist));
+        memset(text, UNTOUCHED, sizeof text);
+        a = bankplan_take(2, zeros, 2, bytes + at, strlen(worklist), text + (7 - at), length);
+        CHECK(answered(a, 0, 0, length) && memcmp(text + (7 - at), sheet, length) == 0);
+        for (i = 0; i < sizeof text; i++)
+            CHECK((i >= 7 - at && i < 7 - at + length) || text[i] == UNTOUCHED);
+        CHECK(memcmp(bytes + at, worklist, strlen(worklist)) == 0);
     }
 }
 
@@ -467,13 +552,30 @@ static void fill(char *to, int place, int mark)
     }
 }
 
-/* The largest listing, a trial's answer with 200 places, a balance's answer with a record for most, and the largest written sheet. */
+/* 200 rows that say what fill's batches say. */
+static void fill_rows(char *to, int place, int mark)
+{
+    int row, instrument;
+
+    for (row = 1; row <= BANKPLAN_MOST_BATCHES; row++) {
+        to += sprintf(to, "\"%d\",\"%d\",\"%d\",\"", BANKPLAN_MOST_MINUTES, place, mark);
+        for (instrument = BANKPLAN_MOST_INSTRUMENTS; instrument >= 1; instrument--)
+            to += sprintf(to, instrument == 1 ? "%d\"\r\n" : "%d,", instrument);
+    }
+}
+
+/*
+ * The largest listing, a trial's answer with 200 places, a balance's answer with a record for most, the largest written sheet, and the
+ * worklist that says the same.
+ */
 static void largest(void)
 {
     static char full[BANKPLAN_LARGEST_SHEET + 1], filled[BANKPLAN_LARGEST_SHEET + 1];
+    static char rows[BANKPLAN_LARGEST_SHEET + 1];
+    uint32_t longest[BANKPLAN_MOST_INSTRUMENTS];
     bankplan_balanced b;
     bankplan_settled z;
-    size_t line;
+    size_t line, i;
 
     fill(full, 0, 0);
     fill(filled, BANKPLAN_MOST_INSTRUMENTS, 0);
@@ -509,6 +611,26 @@ static void largest(void)
     CHECK(z.refusal == 0 && z.finish == 288240 && z.moves == 0 && z.records == 0 && holds(full));
     b = balance(full, BANKPLAN_MOST_BATCHES, BANKPLAN_LARGEST_SHEET);
     CHECK(b.refusal == 0 && b.finish == 288240 && b.floor == 288240 && b.level == 286800 && b.size == 1 && b.group[0] == 24 && holds(full));
+
+    for (i = 0; i < BANKPLAN_MOST_INSTRUMENTS; i++)
+        longest[i] = BANKPLAN_MOST_CALIBRATION;
+    fill_rows(rows, BANKPLAN_MOST_INSTRUMENTS, 1);
+    CHECK(answered(bankplan_take(BANKPLAN_MOST_INSTRUMENTS, longest, i, (const uint8_t *)rows, strlen(rows), buffer, BANKPLAN_LARGEST_SHEET), 0, 0,
+                   BANKPLAN_LARGEST_SHEET) &&
+          holds(full));
+    memset(buffer, UNTOUCHED, ROOM);
+    CHECK(answered(bankplan_take(BANKPLAN_MOST_INSTRUMENTS, longest, i, (const uint8_t *)rows, strlen(rows), buffer, BANKPLAN_LARGEST_SHEET - 1),
+                   BANKPLAN_BUFFER_SHORT, 0, 0) &&
+          holds(""));
+    /* the last list with an instrument twice, and with one too many */
+    strcpy(rows + strlen(rows) - 4, "2\"\r\n");
+    CHECK(answered(bankplan_take(BANKPLAN_MOST_INSTRUMENTS, longest, i, (const uint8_t *)rows, strlen(rows), buffer, ROOM), BANKPLAN_BAD_LIST,
+                   BANKPLAN_MOST_BATCHES, 0) &&
+          holds(""));
+    strcpy(rows + strlen(rows) - 4, "1,1\"");
+    CHECK(answered(bankplan_take(BANKPLAN_MOST_INSTRUMENTS, longest, i, (const uint8_t *)rows, strlen(rows), buffer, ROOM), BANKPLAN_BAD_LIST,
+                   BANKPLAN_MOST_BATCHES, 0) &&
+          holds(""));
 }
 
 int main(void)
@@ -517,6 +639,7 @@ int main(void)
     written_sheets();
     calibrations();
     started();
+    worklists();
     short_buffers();
     journals();
     files();

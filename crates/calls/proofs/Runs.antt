@@ -1,25 +1,27 @@
--- Demand 3: from any file without a fault, through any list of calls.
+-- Demand 3: from any sheet file and any worklist without a fault, through any list of calls.
 use Prim.Native.Nat.{ℕ}
 use mathlib.Core.Path.{_≡_, refl, ap, _∙_}
 use mathlib.Core.Bool.{Bool, true, false}
 use mathlib.Core.List.{List, map}
 use lib.ListN.{length}
 use Rattle.rules.specs.Sheet.{Book, sound}
-use Rattle.rules.specs.Read.{read, accepted}
+use Rattle.rules.specs.Read.{accepted}
+use Rattle.rules.specs.Read as D
 use Rattle.rules.specs.Run.{Call, answer, next, bookAfter, answers, answerNumbers, roomy, balanceAnswer, settleAnswer}
 use Rattle.rules.specs.Run as R
 use Rattle.theory.proofs.Sound.{read-sound}
+use Rattle.theory.proofs.Taken.{taken-sound}
 use Rattle.theory.proofs.Runs.{sound-claims, next-sound}
 use Rattle.sheet.specs.declared.Sheet.{Sheet}
 use Rattle.sheet.specs.declared.Reading.{Reading}
 use Rattle.sheet.specs.Represent.{sheetOf, bookOf}
-use Rattle.sheet.specs.Answers.{readOf, ReadAnswered}
+use Rattle.sheet.specs.Answers.{readAs, ReadAnswered}
 use Rattle.sheet.specs.declared.Refusal.the-variants.{Nothing}
-use Rattle.sheet.proofs.Accepted.{is-accepted}
+use Rattle.sheet.proofs.Accepted.{or-accepted}
 use Rattle.sheet.proofs.Answered.{edit-next}
 use Rattle.sheet.proofs.Represent.{book-sheet, sheet-sound}
 use Rattle.calls.specs.Lent.{balanceReply, settleReply, balanceAs, settleAs}
-use Rattle.calls.specs.Runs.{Link, editing, reviewing, trying, balancing, settling, Reply, replyNumbers, Chain, link, chainNumbers, HoldsBook, Holds, call, Whole}
+use Rattle.calls.specs.Runs.{Link, editing, reviewing, trying, balancing, settling, Reply, replyNumbers, Chain, link, chainNumbers, Source, file, worklist, says, HoldsBook, Holds, call, Whole}
 use Rattle.calls.specs.Runs as S
 
 -- ---- a sheet that holds a book
@@ -96,26 +98,31 @@ unfolding answers chainNumbers
 chain-answers k (S.end w) = refl
 chain-answers k (call {c = c} w l e h) = rw (e, chain-answers (next k c) h)
 
-read-sheet : (s : List ℕ) (k : Book) → read s ≡ accepted k → readOf s .sheet ≡ sheetOf k
-unfolding readOf
-read-sheet s k e = rw e refl
+-- ---- from its source on
 
--- any file that reading does not refuse, and any list of calls from the sheet that it gives
-pub run-holds : (s : List ℕ) (r : Reading) → ReadAnswered s r → r .refusal ≡ Nothing
-    → {cs : List Call} {rs : List Reply} {u : Sheet} → Chain (r .sheet) cs rs u → Whole s (r .sheet) cs rs u
-run-holds s r e q {cs} {rs} {u} h =
+-- a book that is said is sound
+pub said-sound : (o : Source) (k : Book) → says o ≡ accepted k → sound k ≡ true
+said-sound (file s) k e = read-sound s k e
+said-sound (worklist m l s) k e = taken-sound m l s k e
+
+said-sheet : (o : D.Reading) (k : Book) → o ≡ accepted k → readAs o .sheet ≡ sheetOf k
+said-sheet o k e = ap (λ (x : D.Reading). readAs x .sheet) e
+
+-- any sheet file and any worklist that is not refused, and any list of calls from the sheet that it gives
+pub run-holds : (o : Source) (r : Reading) → ReadAnswered (says o) r → r .refusal ≡ Nothing
+    → {cs : List Call} {rs : List Reply} {u : Sheet} → Chain (r .sheet) cs rs u → Whole o (r .sheet) cs rs u
+run-holds o r e q {cs} {rs} {u} h =
     let k = bookOf (r .sheet) in
-    let f = is-accepted s r (e .is) q .book in
-    let v = chain-holds k (read-sound s k f) (ap (λ (x : Reading). x .sheet) (e .is) ∙ read-sheet s k f) h in
+    let f = or-accepted (says o) r (said-sound o) (e .is) q .book in
+    let v = chain-holds k (said-sound o k f) (ap (λ (x : Reading). x .sheet) (e .is) ∙ said-sheet (says o) k f) h in
     record {
       book = k;
-      file = f;
+      said = f;
       holds = v;
       sheet = chain-sheet k v;
       replies = chain-answers k v;
     }
 
--- every file without a fault is not refused
-pub fault-free : (s : List ℕ) (k : Book) → read s ≡ accepted k → readOf s .refusal ≡ Nothing
-unfolding readOf
-fault-free s k e = rw e refl
+-- none without a fault is refused
+pub fault-free : (o : Source) (k : Book) → says o ≡ accepted k → readAs (says o) .refusal ≡ Nothing
+fault-free o k e = ap (λ (x : D.Reading). readAs x .refusal) e

@@ -6,7 +6,8 @@ use mathlib.Core.List.{List, [], _∷_, map}
 use lib.ListN.{length}
 use Rattle.rules.specs.Sheet.{Book}
 use Rattle.rules.specs.Edit.{Edit}
-use Rattle.rules.specs.Read.{read, accepted}
+use Rattle.rules.specs.Read.{Reading, accepted, read}
+use Rattle.rules.specs.Worklist.{taken}
 use Rattle.rules.specs.Run.{Call, answer, next, bookAfter, answers, answerNumbers}
 use Rattle.rules.specs.Run as R
 use Rattle.theory.proofs.Claims.{Claims}
@@ -62,6 +63,18 @@ chainNumbers k [] rs = []
 chainNumbers k (c ∷ cs) [] = []
 chainNumbers k (c ∷ cs) (r ∷ rs) = replyNumbers k r ∷ chainNumbers (next k c) cs rs
 
+-- ---- what a run starts from
+
+-- the bytes of a sheet file; or instruments and their calibrations, with the bytes of a worklist (document 02, C-18)
+pub data Source : Type 0 where
+  file : List ℕ → Source
+  worklist : ℕ → List ℕ → List ℕ → Source
+
+-- what it says by the rules: a book, or a refusal
+abbrev pub says : Source → Reading
+says (file s) = read s
+says (worklist m l s) = taken m l s
+
 -- ---- what is claimed
 
 -- the sheet s holds the book k, on which all claims about reviews, trials, balance and settle hold
@@ -77,10 +90,10 @@ pub data Holds : Book → Sheet → List Call → List Reply → Sheet → Type 
   call : {k : Book} {s t u : Sheet} {c : Call} {r : Reply} {cs : List Call} {rs : List Reply} → HoldsBook k s → Link s c r t
       → replyNumbers k r ≡ answerNumbers (answer k c) → Holds (next k c) t cs rs u → Holds k s (c ∷ cs) (r ∷ rs) u
 
--- demand 3 of a run from the bytes of a file: the book that they say, what holds at each call, the sheet at the end, and all replies
-pub record Whole (bytes : List ℕ) (s : Sheet) (cs : List Call) (rs : List Reply) (u : Sheet) : Type 0 where
+-- demand 3 of a run from a sheet file or a worklist: the book that it says, what holds at each call, the sheet at the end, and all replies
+pub record Whole (source : Source) (s : Sheet) (cs : List Call) (rs : List Reply) (u : Sheet) : Type 0 where
   pub book : Book
-  pub file : read bytes ≡ accepted book
+  pub said : says source ≡ accepted book
   pub holds : Holds book s cs rs u
   pub sheet : u ≡ sheetOf (bookAfter book cs)
   pub replies : chainNumbers book cs rs ≡ map answerNumbers (answers book cs)

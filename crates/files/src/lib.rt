@@ -1,7 +1,7 @@
-// What the programs over a sheet's file and a journal's share: PROGRAM SHEET JOURNAL.
+// What the programs over files share: PROGRAM SHEET JOURNAL, and PROGRAM WORKLIST with numbers.
 //
-// The first 33,959 bytes of a sheet decide as the whole does. A journal has at most 262,143 bytes; a longer one fills its buffer, and is
-// refused whole.
+// The first 33,959 bytes of a sheet decide as the whole does. A journal has at most 262,143 bytes, and so has a worklist; a longer one fills
+// its buffer, and is refused whole.
 ghost use Prim.Native.Nat.{_<_, _≤_};
 ghost use mathlib.Core.Path.{_≡_};
 ghost use lib.ListN.{length};
@@ -13,6 +13,12 @@ pub const SHEET: usize = 33959;
 
 pub const JOURNAL: usize = 262144;
 
+// How many bytes of a file were read, and whether it could be.
+pub struct File {
+    pub good: bool,
+    pub length: usize,
+}
+
 // How many bytes of each file were read, and whether both could be.
 pub struct Files {
     pub good: bool,
@@ -20,7 +26,7 @@ pub struct Files {
     pub journal: usize,
 }
 
-// Zeros, for a journal or a text as long.
+// Zeros, for a journal, a worklist, or a text as long.
 pub fn buffer() -> [u8; JOURNAL]
     ensures { λ r. ⌜ 262144 ≡ length r ⌝ }
 {
@@ -69,7 +75,30 @@ fn is_readable(program: &[u8], file: i32) -> bool {
     true
 }
 
-// Reads the files that the first two arguments name, as far as they fit. Where one cannot be read, says why on standard error.
+// Reads an open file, as far as it fits. Where it cannot be read, says why on standard error.
+fn read_open(program: &[u8], file: i32, text: &mut [u8]) -> File
+    ensures { λ r. ⌜ r .length ≤ length (now (text .entry)) ⌝ }
+{
+    let length = io::read_full(file, text);
+    let good = is_readable(program, file);
+    File { good, length }
+}
+
+// Reads the file that argument i names, likewise.
+pub fn read_file(program: &[u8], usage: &[u8], i: usize, text: &mut [u8]) -> File
+    ensures { λ r. ⌜ r .length ≤ length (now (text .entry)) ⌝ }
+{
+    let file = open(program, usage, i);
+    if file < 0 {
+        return File {
+            good: false,
+            length: 0,
+        };
+    }
+    read_open(program, file, text)
+}
+
+// Reads the files that the first two arguments name. Both are opened before one is read.
 pub fn read_both(program: &[u8], usage: &[u8], sheet: &mut [u8], journal: &mut [u8]) -> Files
     ensures { λ r. ⌜ (r .sheet ≤ length (now (sheet .entry))) × (r .journal ≤ length (now (journal .entry))) ⌝ }
 {
@@ -81,18 +110,18 @@ pub fn read_both(program: &[u8], usage: &[u8], sheet: &mut [u8], journal: &mut [
     if journal_file < 0 {
         return none();
     }
-    let size = io::read_full(sheet_file, sheet);
-    let length = io::read_full(journal_file, journal);
-    if !is_readable(program, sheet_file) {
+    let s = read_open(program, sheet_file, sheet);
+    let j = read_open(program, journal_file, journal);
+    if !s.good {
         return none();
     }
-    if !is_readable(program, journal_file) {
+    if !j.good {
         return none();
     }
     Files {
         good: true,
-        sheet: size,
-        journal: length,
+        sheet: s.length,
+        journal: j.length,
     }
 }
 

@@ -2,6 +2,7 @@
 ghost use mathlib.Core.Path.{_≡_};
 ghost use Rattle.rules.specs.Listing.{host};
 ghost use Rattle.rules.specs.Journal.{runHost, writeHost};
+ghost use Rattle.rules.specs.Worklist.{takeHost};
 ghost use Rattle.text.specs.Answer.{hostedOf};
 ghost use Rattle.filing.specs.Filed.{BalanceIs, SettleIs};
 use filing::BalanceFiled;
@@ -13,6 +14,7 @@ use listing::host::plan_into;
 use moves::Move;
 use moves::fill;
 use text::Hosted;
+use written::take::take_into;
 use written::write::write_into;
 
 // Plans a sheet of any bytes and writes its listing:
@@ -42,6 +44,22 @@ pub extern "C" fn bankplan_write(sheet: &[u8], journal: &[u8], written: &mut [u8
     ensures { λ r. ⌜ hostedOf r (now (written .exit)) ≡ writeHost (now (sheet .entry)) (now (journal .entry)) (now (written .entry)) ⌝ }
 {
     write_into(sheet, journal, written)
+}
+
+// Takes a worklist of any bytes, with so many instruments and their calibrations, and writes the file of its sheet:
+//   Hosted bankplan_take(uint32_t instruments, const uint32_t *calibrations, size_t calibrations_length,
+//                     const uint8_t *worklist, size_t worklist_length, uint8_t *sheet, size_t sheet_length);
+#[no_mangle]
+pub extern "C" fn bankplan_take(
+    instruments: u32,
+    calibrations: &[u32],
+    worklist: &[u8],
+    sheet: &mut [u8],
+) -> Hosted
+    ensures { λ r. ⌜ hostedOf r (now (sheet .exit))
+        ≡ takeHost instruments (now (calibrations .entry)) (now (worklist .entry)) (now (sheet .entry)) ⌝ }
+{
+    take_into(instruments, calibrations, worklist, sheet)
 }
 
 // Balances a sheet of any bytes, writes the records of what moved at the front of the list, and the file of the sheet that this leaves:

@@ -19,7 +19,7 @@ use Rattle.fields.proofs.Reading.{six}
 use Rattle.journal.specs.declared.entry.Entry.{Entry}
 use Rattle.journal.specs.declared.entry.KeptList.{KeptList}
 use Rattle.journal.specs.Entry.{entryWith, entryOf, noEntry, entryAs, keptAs, oneNumber, twoNumbers, numberAndList, numbersAs}
-use Rattle.journal.proofs.Numbers.{row-few, row-long}
+use Rattle.sheet.proofs.Firsts.{firsts-few, firsts-long}
 
 -- ---- a part read from r is refused, or leaves what follows k bytes, at least b
 
@@ -149,9 +149,9 @@ fault-of (settling c) n = refl
 
 -- the numbers of its list that are kept stand in its row
 pub count-kept : (c : Call) (n : ℕ) → entryOf c n .count ≤ length (entryOf c n .list)
-count-kept (editing (add t l)) n = omega (arith, row-few l, row-long l)
+count-kept (editing (add t l)) n = omega (arith, firsts-few l, firsts-long l)
 count-kept (editing (withdraw b)) n = omega arith
-count-kept (editing (requalify b l)) n = omega (arith, row-few l, row-long l)
+count-kept (editing (requalify b l)) n = omega (arith, firsts-few l, firsts-long l)
 count-kept (editing (move b i)) n = omega arith
 count-kept (editing (start b)) n = omega arith
 count-kept reviewing n = omega arith

@@ -67,11 +67,11 @@ spells j e = from (journal-numbered j) refl e
 
 module _ (f : Book → List Call → Book) (s j : List ℕ) where
   -- the sheet is refused
-  pub left-unread : (r : D.Reading) (c : ℕ) → Refused s r → c ≡ numberOf (r .refusal) → noSheet c (r .line) ≡ leftAs f (read s) (journal j)
+  pub left-unread : (r : D.Reading) (c : ℕ) → Refused (read s) r → c ≡ numberOf (r .refusal) → noSheet c (r .line) ≡ leftAs f (read s) (journal j)
   left-unread r c h e = rw (h .said, e, h .coded)
 
   -- the journal is
-  pub left-faulty : (r : D.Reading) (i : ℕ) → Accepted s r → i ≡ faultOf (journal j) → (i ≡ 0 → ⊥)
+  pub left-faulty : (r : D.Reading) (i : ℕ) → Accepted (read s) r → i ≡ faultOf (journal j) → (i ≡ 0 → ⊥)
       → noSheet 19 i ≡ leftAs f (read s) (journal j)
   left-faulty r i a e n = rw (a .book) (from (journal j) e)
     where
@@ -80,7 +80,7 @@ module _ (f : Book → List Call → Book) (s j : List ℕ) where
       from (faulty m) q = rw q
 
   -- neither is
-  pub left-good : (r : D.Reading) (t : Sheet) (p : Spells j) → Accepted s r → t ≡ sheetOf (f (bookOf (r .sheet)) (p .made))
+  pub left-good : (r : D.Reading) (t : Sheet) (p : Spells j) → Accepted (read s) r → t ≡ sheetOf (f (bookOf (r .sheet)) (p .made))
       → record { refusal = 0; line = 0; sheet = t } ≡ leftAs f (read s) (journal j)
   left-good r t p a e = rw (a .book, p .same, e)
 

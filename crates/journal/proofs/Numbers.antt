@@ -5,50 +5,25 @@ use mathlib.Core.Bool.{false}
 use mathlib.Core.List.{List, [], _∷_, _++_, append-assoc, append-nil}
 use native.Mathlib.Omega.{arith}
 use lib.Dec.{ltb}
-use lib.ListN.{length, set, take, drop, replicate, length-append, length-take}
-use lib.Seq.{take-all, take-at, take-append-le, length-take-le}
+use lib.ListN.{length, take, drop, length-append}
+use lib.Seq.{take-all, length-take-le}
 use borrow.Author.Tests.{ltb-true, ltb-false}
 use Rattle.rules.specs.Fold.{pick}
 use Rattle.rules.specs.Refusal.{malformed}
 use Rattle.rules.specs.Read.{Part, gives, refuses, andThen, numberAt}
 use Rattle.rules.specs.Journal.{numbersAt}
 use Rattle.theory.proofs.Logic.{byTest}
-use Rattle.sheet.specs.Represent.{padded}
-use Rattle.sheet.proofs.Padded.{set-append, length-padded}
+use Rattle.sheet.specs.Represent.{firsts}
 use Rattle.fields.proofs.Reading.{next-at}
 use Rattle.journal.specs.declared.entry.KeptList.{KeptList}
 use Rattle.journal.specs.Entry.{noKept, keptAs}
 
--- ---- the first 25 of a list, in a row of 25
-
-abbrev pub row : List ℕ → List ℕ
-row l = padded 25 (take 25 l)
-
-pub row-fills : (l : List ℕ) (k x : ℕ) → length l ≡ k → k < 25 → set (row l) k x ≡ row (l ++ (x ∷ []))
-row-fills l k x e h =
-    let a : take 25 l ≡ l = take-all 25 l (omega arith) in
-    let b : take 25 (l ++ (x ∷ [])) ≡ l ++ (x ∷ []) = take-all 25 (l ++ (x ∷ [])) (omega (arith, length-append l (x ∷ []))) in
-    ap (λ (d : List ℕ). set (padded 25 d) k x) a ∙ set-append 25 l k x e h ∙ ap (padded 25) (sym b)
-
-pub row-full : (l : List ℕ) (k x : ℕ) → length l ≡ k → 25 ≤ k → row l ≡ row (l ++ (x ∷ []))
-row-full l k x e h = ap (padded 25) (sym (take-append-le 25 l (x ∷ []) (omega arith)))
-
--- how many they are
-pub row-count : (l : List ℕ) (k : ℕ) → length l ≡ k → pick (ltb k 25) k 25 ≡ length (take 25 l)
-row-count l k e =
+-- how many the first 25 of a list are
+pub count-first : (l : List ℕ) (k : ℕ) → length l ≡ k → pick (ltb k 25) k 25 ≡ length (take 25 l)
+count-first l k e =
     byTest (ltb k 25)
     (λ t. rw t (omega (arith, ap length (take-all 25 l (omega (arith, ltb-true k 25 t))))))
     (λ t. rw t (sym (length-take-le 25 l (omega (arith, ltb-false k 25 t)))))
-
--- they are the front of the row
-pub row-front : (l : List ℕ) → take (length (take 25 l)) (row l) ≡ take 25 l
-row-front l = take-at (take 25 l) (replicate (25 - length (take 25 l)) 0) (length (take 25 l)) refl
-
-pub row-few : (l : List ℕ) → length (take 25 l) ≤ 25
-row-few l = omega (arith, length-take 25 l)
-
-pub row-long : (l : List ℕ) → length (row l) ≡ 25
-row-long l = length-padded 25 (take 25 l) (row-few l)
 
 -- ---- k of the c numbers from at on are read, up to next
 
@@ -69,12 +44,12 @@ module _ (s : List ℕ) (at c : ℕ) where
   pub record NumbersSofar (list : List ℕ) (k next : ℕ) : Type 0 where
     pub numbers : List ℕ
     pub count : length numbers ≡ k
-    pub same : list ≡ row numbers
+    pub same : list ≡ firsts numbers
     pub room : next ≤ length s
     pub few : k ≤ c
     pub rest : after numbers (numbersAt (c - k) (drop next s)) ≡ numbersAt c (drop at s)
 
-  pub none-yet : (list : List ℕ) → list ≡ row [] → at ≤ length s → NumbersSofar list 0 at
+  pub none-yet : (list : List ℕ) → list ≡ firsts [] → at ≤ length s → NumbersSofar list 0 at
   none-yet list e h =
       let d : c - 0 ≡ c = omega arith in
       record {
@@ -100,7 +75,7 @@ module _ (s : List ℕ) (at c : ℕ) where
 
     -- one number more
     pub one-more : (x : ℕ) (more : List ℕ) → k < c → numberAt (drop next s) ≡ gives x (drop (next + 6) s) → next + 6 ≤ length s
-        → more ≡ row (f .numbers ++ (x ∷ [])) → NumbersSofar more (k + 1) (next + 6)
+        → more ≡ firsts (f .numbers ++ (x ∷ [])) → NumbersSofar more (k + 1) (next + 6)
     one-more x more h e l q =
         let g : after (f .numbers) (andThen (numbersAt (c - (k + 1)) (drop (next + 6) s)) (λ m u. gives (x ∷ m) u))
         ≡ numbersAt c (drop at s) = rw e at (turn h) in
@@ -123,7 +98,7 @@ module _ (s : List ℕ) (at c : ℕ) where
         ap (λ (i : ℕ). after (f .numbers) (numbersAt i (drop next s))) (sym z) ∙ f .rest in
         let p : gives (f .numbers) (drop next s) ≡ numbersAt c (drop at s) =
         ap (λ (l : List ℕ). gives l (drop next s)) (sym (append-nil (f .numbers))) ∙ q in
-        let n : kept ≡ length (take 25 (f .numbers)) = e ∙ row-count (f .numbers) c (omega (arith, f .count, f .few)) in
+        let n : kept ≡ length (take 25 (f .numbers)) = e ∙ count-first (f .numbers) c (omega (arith, f .count, f .few)) in
         let made : KeptList = record { fault = false; count = kept; list = list; next = next } in
         let u : made ≡ keptAs (length s) (gives (f .numbers) (drop next s)) = rw (n, f .same, ← next-at s next (f .room)) in
         u ∙ ap (keptAs (length s)) p

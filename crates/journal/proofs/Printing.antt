@@ -31,7 +31,7 @@ pub record Modest (room : ℕ) (h : Hosted) : Type 0 where
   pub place : h .line < 1000000
   pub few : h .length ≤ room
 
-into-modest : (t buffer : List ℕ) → Modest (length buffer) (intoBuffer (text t) buffer)
+pub into-modest : (t buffer : List ℕ) → Modest (length buffer) (intoBuffer (text t) buffer)
 unfolding intoBuffer
 into-modest t buffer =
     byTest (leb (length t) (length buffer))

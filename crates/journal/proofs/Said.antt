@@ -1,58 +1,36 @@
 -- The call of an entry does what the call of its line does: a list of more than 24 numbers is refused, and so are its first 25.
-use Prim.Native.Nat.{ℕ, _≤_, _<_}
+use Prim.Native.Nat.{ℕ, _<_}
 use mathlib.Core.Path.{_≡_, refl, ap, _∙_}
-use mathlib.Core.Bool.{Bool, true, false}
+use mathlib.Core.Bool.{true}
 use mathlib.Core.List.{List}
 use native.Mathlib.Omega.{arith}
-use lib.Dec.{leb}
-use lib.ListN.{length, take}
-use lib.Seq.{take-all, length-take-le}
-use borrow.Author.Tests.{leb-true, leb-false, lt-leb, ne-eqb}
-use Rattle.rules.specs.Fold.{_and_}
-use Rattle.rules.specs.Sheet.{Book, sound, goodInstruments, goodList}
+use lib.ListN.{take}
+use borrow.Author.Tests.{ne-eqb}
+use Rattle.rules.specs.Sheet.{Book, sound}
 use Rattle.rules.specs.Edit.{Edit, Edited, add, withdraw, requalify, move, start, edit}
 use Rattle.rules.specs.Run.{Call, editing, reviewing, trying, balancing, settling, answer, next, answerNumbers, editAnswer, editBook}
-use Rattle.theory.proofs.Logic.{byTest, and-right}
+use Rattle.theory.proofs.Format.{few}
+use Rattle.theory.proofs.Worklist.{first-few}
 use Rattle.theory.proofs.Sound.{sound-is}
 use Rattle.sheet.specs.Represent.{sheetOf}
 use Rattle.journal.specs.declared.entry.Entry.{Entry}
 use Rattle.journal.specs.Entry.{entryOf}
 use Rattle.journal.specs.Answering.{editSaid, callSaid, madeWith, madeOf, isSettle}
-use Rattle.journal.proofs.Numbers.{row-front}
+use Rattle.sheet.proofs.Firsts.{firsts-front}
 
 -- ---- the first 25 of a list
 
-none-and : (a b : Bool) → b ≡ false → a and b ≡ false
-unfolding _and_
-none-and true b e = e
-none-and false b e = refl
-
-long-bad : (m : ℕ) (l : List ℕ) → m < length l → goodList m l ≡ false
-unfolding goodList _and_
-long-bad m l h = none-and (leb 1 (length l)) _ (rw (lt-leb (length l) m h))
-
-few-instruments : (k : Book) → sound k ≡ true → k .m ≤ 24
-unfolding goodInstruments
-few-instruments k v = leb-true _ _ (and-right (leb 1 (k .m)) _ (sound-is k v .instruments))
-
 module _ (k : Book) (v : sound k ≡ true) (l : List ℕ) where
-  -- an edit that looks at its list only through goodList
-  first-few : (f : List ℕ → Edited) → ((d : List ℕ) → goodList (k .m) d ≡ false → goodList (k .m) l ≡ false → f d ≡ f l)
-      → f (take 25 l) ≡ f l
-  first-few f h =
-      byTest (leb (length l) 25)
-      (λ t. ap f (take-all 25 l (leb-true _ _ t)))
-      (λ t. let g = leb-false (length l) 25 t in
-      let m = few-instruments k v in
-      h (take 25 l) (long-bad (k .m) (take 25 l) (omega (arith, length-take-le 25 l (omega arith)))) (long-bad (k .m) l (omega arith)))
+  more : k .m < 25
+  more = omega (arith, few (k .m) (sound-is k v .instruments))
 
   add-first : (t : ℕ) → edit k (add t (take 25 l)) ≡ edit k (add t l)
   unfolding edit
-  add-first t = first-few (λ d. edit k (add t d)) (λ d p q. rw (p, q))
+  add-first t = first-few (k .m) 25 l (λ d. edit k (add t d)) more (λ d p q. rw (p, q))
 
   requalify-first : (b : ℕ) → edit k (requalify b (take 25 l)) ≡ edit k (requalify b l)
   unfolding edit
-  requalify-first b = first-few (λ d. edit k (requalify b d)) (λ d p q. rw (p, q))
+  requalify-first b = first-few (k .m) 25 l (λ d. edit k (requalify b d)) more (λ d p q. rw (p, q))
 
 -- ---- the same made
 
@@ -63,10 +41,10 @@ made-edits k e f q = ap (λ (o : Edited). madeWith (sheetOf (editBook k o)) (ans
 pub made-said : (k : Book) → sound k ≡ true → (c : Call) (n : ℕ) → madeOf k (callSaid (entryOf c n)) ≡ madeOf k c
 unfolding callSaid editSaid
 made-said k v (editing (add t l)) n =
-    made-edits k _ (add t l) (ap (λ (d : List ℕ). edit k (add t d)) (row-front l) ∙ add-first k v l t)
+    made-edits k _ (add t l) (ap (λ (d : List ℕ). edit k (add t d)) (firsts-front l) ∙ add-first k v l t)
 made-said k v (editing (withdraw b)) n = refl
 made-said k v (editing (requalify b l)) n =
-    made-edits k _ (requalify b l) (ap (λ (d : List ℕ). edit k (requalify b d)) (row-front l) ∙ requalify-first k v l b)
+    made-edits k _ (requalify b l) (ap (λ (d : List ℕ). edit k (requalify b d)) (firsts-front l) ∙ requalify-first k v l b)
 made-said k v (editing (move b i)) n = refl
 made-said k v (editing (start b)) n = refl
 made-said k v reviewing n = refl

@@ -29,7 +29,7 @@ listed-long k buffer text after c h e f g =
     (g ∙ ap₂ (λ (t : List ℕ) (i : ℕ). t ++ drop i buffer) e (sym f))
 
 -- a sheet that is refused
-pub host-refused : (s buffer : List ℕ) (r : Reading) (c : ℕ) → Refused s r → c ≡ numberOf (r .refusal)
+pub host-refused : (s buffer : List ℕ) (r : Reading) (c : ℕ) → Refused (read s) r → c ≡ numberOf (r .refusal)
     → record { refusal = c; line = r .line; length = 0; buffer = buffer } ≡ host s buffer
 unfolding host intoBuffer
 host-refused s buffer r c f e = rw (f .said, e, f .coded)

@@ -10,6 +10,8 @@ pub data Refusal : Type 0 where
   badPlace : Refusal
   -- document 02, C-16
   badCalibration : Refusal
+  -- whoever exported the worklist; document 02, C-18
+  badWorklist : Refusal
   -- whoever edits
   noBatch : Refusal
   sheetFull : Refusal
@@ -32,3 +34,4 @@ number levelAbove = 8
 number bufferShort = 9
 number badCalibration = 10
 number hasStarted = 11
+number badWorklist = 12

@@ -1,53 +1,48 @@
--- What reading answers: a sound sheet of the book that the rules give, or the rules' refusal, whose line is at most 203.
+-- What reading answers: a sound sheet of the book that the rules give, or the rules' refusal, whose line is at most 203. The first two are
+-- for every reading o of the rules whose book is sound.
 use Prim.Native.Nat.{ℕ, zero, suc, _+_, _≤_}
 use mathlib.Core.Path.{_≡_, refl, sym, ap, _∙_}
+use mathlib.Core.Bool.{true}
 use mathlib.Core.List.{List, [], _∷_, _++_}
 use native.Mathlib.Omega.{arith}
 use lib.ListN.{drop}
 use Rattle.rules.specs.Refusal.{number}
 use Rattle.rules.specs.Refusal as R
-use Rattle.rules.specs.Sheet.{Batch}
+use Rattle.rules.specs.Sheet.{Book, Batch, sound}
 use Rattle.rules.specs.Read.{Part, Head, accepted, refusedAt, onLine, batchLines, linesAfter, read}
 use Rattle.rules.specs.Read as D
 use Rattle.theory.proofs.Sound.{read-sound}
 use Rattle.sheet.specs.declared.Reading.{Reading}
 use Rattle.sheet.specs.declared.Refusal.the-variants.{Nothing}
 use Rattle.sheet.specs.Represent.{Sound, bookOf}
-use Rattle.sheet.specs.Answers.{coded-number, numberOf, readAs, readOf}
+use Rattle.sheet.specs.Answers.{coded-number, numberOf, readAs}
 use Rattle.sheet.proofs.Represent.{book-sheet, sheet-sound}
 use Rattle.sheet.proofs.Extent.{Near, refuse, give, Sizes, head-near, calibration-near, batch-near}
 use Rattle.sheet.proofs.PartsRead.{coded-none}
 
 -- ---- a sheet that is not refused
 
-pub record Accepted (s : List ℕ) (r : Reading) : Type 0 where
+pub record Accepted (o : D.Reading) (r : Reading) : Type 0 where
   pub sound : Sound (r .sheet)
-  pub book : read s ≡ accepted (bookOf (r .sheet))
+  pub book : o ≡ accepted (bookOf (r .sheet))
 
-by-case : (s : List ℕ) (r : Reading) (o : D.Reading) → read s ≡ o → r ≡ readAs o → r .refusal ≡ Nothing → Accepted s r
-by-case s r (accepted k) e f q =
-    let v = read-sound s k e in
-    rw f (record { sound = sheet-sound k v; book = e ∙ ap accepted (sym (book-sheet k v)) })
-by-case s r (refusedAt g j) e f q = absurd (coded-none g (sym (ap (λ (t : Reading). t .refusal) f) ∙ q))
+pub or-accepted : (o : D.Reading) (r : Reading) → ((k : Book) → o ≡ accepted k → sound k ≡ true) → r ≡ readAs o → r .refusal ≡ Nothing → Accepted o r
+or-accepted (accepted k) r v f q = rw f (record { sound = sheet-sound k (v k refl); book = ap accepted (sym (book-sheet k (v k refl))) })
+or-accepted (refusedAt g j) r v f q = absurd (coded-none g (sym (ap (λ (t : Reading). t .refusal) f) ∙ q))
 
-pub is-accepted : (s : List ℕ) (r : Reading) → r ≡ readOf s → r .refusal ≡ Nothing → Accepted s r
-unfolding readOf
-is-accepted s r e q = by-case s r (read s) refl e q
+pub is-accepted : (s : List ℕ) (r : Reading) → r ≡ readAs (read s) → r .refusal ≡ Nothing → Accepted (read s) r
+is-accepted s r e q = or-accepted (read s) r (read-sound s) e q
 
 -- ---- a refusal
 
-pub record Refused (s : List ℕ) (r : Reading) : Type 0 where
+pub record Refused (o : D.Reading) (r : Reading) : Type 0 where
   pub refusal : R.Refusal
   pub coded : numberOf (r .refusal) ≡ number refusal
-  pub said : read s ≡ refusedAt refusal (r .line)
+  pub said : o ≡ refusedAt refusal (r .line)
 
-or-refused : (s : List ℕ) (r : Reading) (o : D.Reading) → read s ≡ o → r ≡ readAs o → (r .refusal ≡ Nothing → ⊥) → Refused s r
-or-refused s r (accepted k) e f n = absurd (n (ap (λ (t : Reading). t .refusal) f))
-or-refused s r (refusedAt g j) e f n = rw f (record { refusal = g; coded = coded-number g; said = e })
-
-pub is-refused : (s : List ℕ) (r : Reading) → r ≡ readOf s → (r .refusal ≡ Nothing → ⊥) → Refused s r
-unfolding readOf
-is-refused s r e n = or-refused s r (read s) refl e n
+pub is-refused : (o : D.Reading) (r : Reading) → r ≡ readAs o → (r .refusal ≡ Nothing → ⊥) → Refused o r
+is-refused (accepted k) r f n = absurd (n (ap (λ (t : Reading). t .refusal) f))
+is-refused (refusedAt g j) r f n = rw f (record { refusal = g; coded = coded-number g; said = refl })
 
 -- ---- the line of a refusal
 

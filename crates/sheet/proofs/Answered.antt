@@ -1,7 +1,7 @@
 -- An answer that is the rules' is so in the documents' numbers.
 use Prim.Native.Nat.{ℕ}
 use mathlib.Core.Path.{_≡_, refl, ap}
-use mathlib.Core.List.{List, [], _∷_}
+use mathlib.Core.List.{[], _∷_}
 use Rattle.rules.specs.Edit as E
 use Rattle.rules.specs.Read as D
 use Rattle.rules.specs.Sheet.{Book}
@@ -10,7 +10,7 @@ use Rattle.sheet.specs.declared.Sheet.{Sheet}
 use Rattle.sheet.specs.declared.Edited.{Edited}
 use Rattle.sheet.specs.declared.Reading.{Reading}
 use Rattle.sheet.specs.Represent.{sheetOf, bookOf}
-use Rattle.sheet.specs.Answers.{numberOf, coded-number, editedAs, editOf, EditAnswered, readAs, readOf, ReadAnswered}
+use Rattle.sheet.specs.Answers.{numberOf, coded-number, editedAs, editOf, EditAnswered, readAs, ReadAnswered}
 
 edit-numbers : (s : Sheet) (o : E.Edited) → numberOf (editedAs s o .refusal) ∷ [] ≡ answerNumbers (editAnswer o)
 edit-numbers s (E.refused e) = ap (λ (x : ℕ). x ∷ []) (coded-number e)
@@ -33,6 +33,5 @@ read-numbers : (o : D.Reading) → numberOf (readAs o .refusal) ∷ readAs o .li
 read-numbers (D.accepted k) = refl
 read-numbers (D.refusedAt e j) = ap (λ (x : ℕ). x ∷ j ∷ []) (coded-number e)
 
-pub read-answered : {s : List ℕ} {r : Reading} → r ≡ readOf s → ReadAnswered s r
-unfolding readOf
-read-answered {s} f = record { is = f; numbers = rw f (read-numbers (D.read s)) }
+pub read-answered : {o : D.Reading} {r : Reading} → r ≡ readAs o → ReadAnswered o r
+read-answered {o} f = record { is = f; numbers = rw f (read-numbers o) }

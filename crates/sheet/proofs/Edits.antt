@@ -2,28 +2,28 @@
 use Prim.Native.Nat.{ℕ, _-_, _≤_, _<_}
 use mathlib.Core.Path.{_≡_, refl, sym, ap, _∙_}
 use mathlib.Core.Bool.{Bool, true, false}
-use mathlib.Core.List.{List, [], _∷_, _++_}
+use mathlib.Core.List.{List}
 use native.Mathlib.Omega.{arith}
 use lib.ListN.{length, getD, take, replicate}
 use lib.Seq.{take-at}
 use lib.Dec.{leb, ltb}
 use borrow.Author.Tests.{lt-ltb, le-ltb}
 use Rattle.rules.specs.Fold.{_and_, mem}
-use Rattle.rules.specs.Sheet.{Book, Batch, waiting, withPlace, withList, begun, size, batch, head, goodMinutes, goodList, sound}
+use Rattle.rules.specs.Sheet.{Book, Batch, withPlace, withList, begun, size, batch, goodList, sound}
 use Rattle.rules.specs.Edit.{Edit, add, withdraw, requalify, move, start, edit, edited, refused, kept, without, withBatches, withBatch, ifWaiting}
 use Rattle.rules.specs.Render.{mark}
 use Rattle.rules.specs.Edit as E
 use Rattle.theory.proofs.Logic.{byTest}
 use Rattle.theory.proofs.Sound.{edit-sound}
+use Rattle.theory.proofs.Worklist.{withRow, add-row}
 use Rattle.sheet.specs.declared.Sheet.{Sheet}
 use Rattle.sheet.specs.declared.Edited.{Edited}
 use Rattle.sheet.specs.declared.Refusal.{Refusal}
-use Rattle.sheet.specs.declared.Refusal.the-variants.{Nothing, BadLength, BadList, BadPlace, NoBatch, SheetFull, HasStarted}
-use Rattle.sheet.specs.Represent.{padded, sheetOf, batchAt, bookOf, Sound, appended}
+use Rattle.sheet.specs.declared.Refusal.the-variants.{Nothing, BadList, BadPlace, NoBatch, SheetFull, HasStarted}
+use Rattle.sheet.specs.Represent.{padded, sheetOf, batchAt, bookOf, Sound}
 use Rattle.sheet.specs.Answers.{editedAs, editOf}
 use Rattle.sheet.specs.Change.{removed, replaced, requalified, startedAt, barred}
-use Rattle.theory.proofs.Entries.{getD-zeros}
-use Rattle.sheet.proofs.Represent.{sheet-sound, append-law}
+use Rattle.sheet.proofs.Represent.{sheet-sound}
 use Rattle.sheet.proofs.Change.{remove-law, move-law, requalify-law, start-law}
 use Rattle.sheet.proofs.Scan.{in-range}
 use Rattle.sheet.proofs.SoundArrays.{book-m, book-size, book-at, number-at, is-number, few-instruments, few-batches, narrow-book, mark-of, good-long}
@@ -192,7 +192,7 @@ module _ (s : Sheet) (v : Sound s) where
       ∙ ap (λ (j : List ℕ). requalified s (b - 1) (kept (c .place) l) (length l) j) d
       ∙ q))
 
-  -- ---- add
+  -- ---- add: a row without a place, and not started
 
   room : s .n < 200 → ltb (size (bookOf s)) 200 ≡ true
   room h = let z = book-size s in lt-ltb (size (bookOf s)) 200 (omega arith)
@@ -201,27 +201,7 @@ module _ (s : Sheet) (v : Sound s) where
   unfolding editOf edit
   add-full t l h = let z = book-size s in rw (le-ltb (size (bookOf s)) 200 (omega arith))
 
-  pub add-length : (t : ℕ) (l : List ℕ) → s .n < 200 → leb 1 t and leb t 1440 ≡ false →
-      said BadLength s ≡ editOf s (add t l)
-  unfolding editOf edit goodMinutes
-  add-length t l h e = rw (room h, e)
-
-  pub add-bad : (t : ℕ) (l : List ℕ) → s .n < 200 → leb 1 t and leb t 1440 ≡ true → goodList (s .m) l ≡ false →
-      said BadList s ≡ editOf s (add t l)
-  unfolding editOf edit goodMinutes
-  add-bad t l h e g = rw (room h, e, good-book l g)
-
-  pub add-done : (t : ℕ) (l row : List ℕ) (y : Sheet) → s .n < 200 → leb 1 t and leb t 1440 ≡ true →
-      goodList (s .m) l ≡ true →
-      row ≡ padded 24 l → y ≡ appended s t (getD row 0 0) 0 (length l) row → said Nothing y ≡ editOf s (add t l)
-  unfolding editOf edit goodMinutes
-  add-done t l row y h e g d u =
-      let z = book-size s in
-      let c = waiting t l (head l) in
-      let p : getD row 0 0 ≡ head l = ap (λ (r : List ℕ). getD r 0 0) d ∙ getD-zeros l (24 - length l) 0 in
-      let q : appended s t (head l) 0 (length l) (padded 24 l) ≡ sheetOf (withBatches (bookOf s) (bookOf s .batches ++ (c ∷ []))) =
-      ap (λ (x : Sheet). appended x t (head l) 0 (length l) (padded 24 l)) (sym (v .arrays))
-      ∙ append-law (bookOf s) c (omega arith) (narrow-book s v) (omega (arith, few-instruments s v, good-long (s .m) l g .1)) in
-      rw (room h, e, good-book l g)
-      (ap (said Nothing)
-      (u ∙ ap (λ (j : ℕ). appended s t j 0 (length l) row) p ∙ ap (λ (j : List ℕ). appended s t (head l) 0 (length l) j) d ∙ q))
+  pub add-done : (t : ℕ) (l : List ℕ) → s .n < 200
+      → editedAs s (withRow (bookOf s) (record { minutes = t; place = 0; mark = 0; list = l })) ≡ editOf s (add t l)
+  unfolding editOf
+  add-done t l h = ap (editedAs s) (add-row (bookOf s) t l (room h))

@@ -6,9 +6,8 @@ use Rattle.rules.specs.Sheet.{Book}
 use Rattle.rules.specs.Read.{accepted, read}
 use Rattle.theory.proofs.Sound.{read-sound}
 use Rattle.sheet.specs.Represent.{Sound}
-use Rattle.sheet.specs.Answers.{readOf}
+use Rattle.sheet.specs.Answers.{readAs}
 use Rattle.sheet.proofs.Represent.{sheet-sound}
 
-pub read-keeps : (s : List ℕ) (k : Book) → read s ≡ accepted k → Sound (readOf s .sheet)
-unfolding readOf
+pub read-keeps : (s : List ℕ) (k : Book) → read s ≡ accepted k → Sound (readAs (read s) .sheet)
 read-keeps s k e = rw e (sheet-sound k (read-sound s k e))

@@ -1,10 +1,12 @@
 pub mod Padded
 pub mod Represent
+pub mod Firsts
 pub mod Scan
 pub mod Shift
 pub mod Change
 pub mod SoundArrays
 pub mod Edits
+pub mod Rows
 pub mod Lines
 pub mod Extent
 pub mod Bytes

@@ -1,8 +1,8 @@
 -- What the calls answer, by the rules: each case of an enum with the documents' number and values.
 use Prim.Native.Nat.{ℕ}
 use mathlib.Core.Path.{_≡_, refl}
-use mathlib.Core.List.{List, [], _∷_}
-use Rattle.rules.specs.Refusal.{malformed, badSize, badLength, badList, badPlace, noBatch, sheetFull, levelAbove, bufferShort, badCalibration, hasStarted, number}
+use mathlib.Core.List.{[], _∷_}
+use Rattle.rules.specs.Refusal.{malformed, badSize, badLength, badList, badPlace, noBatch, sheetFull, levelAbove, bufferShort, badCalibration, hasStarted, badWorklist, number}
 use Rattle.rules.specs.Refusal as R
 use Rattle.rules.specs.Edit as E
 use Rattle.rules.specs.Read as D
@@ -11,7 +11,7 @@ use Rattle.sheet.specs.declared.Sheet.{Sheet}
 use Rattle.sheet.specs.declared.Edited.{Edited}
 use Rattle.sheet.specs.declared.Reading.{Reading}
 use Rattle.sheet.specs.declared.Refusal.{Refusal}
-use Rattle.sheet.specs.declared.Refusal.the-variants.{Nothing, Malformed, BadSize, BadLength, BadList, BadPlace, NoBatch, SheetFull, LevelAbove, BufferShort, BadCalibration, HasStarted}
+use Rattle.sheet.specs.declared.Refusal.the-variants.{Nothing, Malformed, BadSize, BadLength, BadList, BadPlace, NoBatch, SheetFull, LevelAbove, BufferShort, BadCalibration, HasStarted, BadWorklist}
 use Rattle.sheet.specs.Represent.{sheetOf, bookOf, blank}
 
 -- a refusal's number; 0 for none
@@ -28,6 +28,7 @@ numberOf LevelAbove = 8
 numberOf BufferShort = 9
 numberOf BadCalibration = 10
 numberOf HasStarted = 11
+numberOf BadWorklist = 12
 
 -- the enum's case for each refusal of the rules
 abbrev pub coded : R.Refusal → Refusal
@@ -42,6 +43,7 @@ coded levelAbove = LevelAbove
 coded bufferShort = BufferShort
 coded badCalibration = BadCalibration
 coded hasStarted = HasStarted
+coded badWorklist = BadWorklist
 
 -- a refusal and its case have one number
 pub coded-number : (e : R.Refusal) → numberOf (coded e) ≡ number e
@@ -56,6 +58,7 @@ coded-number levelAbove = refl
 coded-number bufferShort = refl
 coded-number badCalibration = refl
 coded-number hasStarted = refl
+coded-number badWorklist = refl
 
 -- ---- edits: on a refusal the very same sheet
 
@@ -77,10 +80,7 @@ abbrev pub readAs : D.Reading → Reading
 readAs (D.accepted k) = record { refusal = Nothing; line = 0; sheet = sheetOf k }
 readAs (D.refusedAt e j) = record { refusal = coded e; line = j; sheet = blank }
 
-unfoldable pub readOf : List ℕ → Reading
-readOf s = readAs (D.read s)
-
--- what reading promises, likewise
-pub record ReadAnswered (s : List ℕ) (r : Reading) : Type 0 where
-  pub is : r ≡ readOf s
-  pub numbers : numberOf (r .refusal) ∷ r .line ∷ [] ≡ D.readingNumbers (D.read s)
+-- what reading promises, and taking a worklist, likewise: its answer is the rules' o
+pub record ReadAnswered (o : D.Reading) (r : Reading) : Type 0 where
+  pub is : r ≡ readAs o
+  pub numbers : numberOf (r .refusal) ∷ r .line ∷ [] ≡ D.readingNumbers o

@@ -14,6 +14,10 @@ use Rattle.sheet.specs.declared.Sheet.{Sheet}
 abbrev pub padded : ℕ → List ℕ → List ℕ
 padded w l = l ++ replicate (w - length l) 0
 
+-- a list's first 25 in 25 entries: one more than any list of a sheet has
+abbrev pub firsts : List ℕ → List ℕ
+firsts l = padded 25 (take 25 l)
+
 -- the lists of batches, 24 entries each
 abbrev pub rows : List Batch → List ℕ
 rows [] = []

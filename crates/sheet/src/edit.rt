@@ -1,12 +1,13 @@
 // The edits: each takes a sheet and gives it back, changed or, on a refusal, as it was.
-ghost use Prim.Native.Nat.{ℕ, _+_, _<_, _≤_};
+ghost use Prim.Native.Nat.{_+_, _<_, _≤_};
 ghost use mathlib.Core.Path.{_≡_};
 ghost use lib.ListN.{length, getD, take, drop};
 ghost use Rattle.rules.specs.Fold.{mem};
-ghost use Rattle.rules.specs.Sheet.{goodList};
+ghost use Rattle.rules.specs.Sheet.{size, goodList};
 ghost use Rattle.rules.specs.Edit.{kept, add as adding, withdraw as withdrawing, requalify as requalifying, move as moving, start as starting};
-ghost use Rattle.sheet.specs.Represent.{Sound, padded};
-ghost use Rattle.sheet.specs.Answers.{EditAnswered};
+ghost use Rattle.theory.proofs.Worklist.{withRow};
+ghost use Rattle.sheet.specs.Represent.{Sound, bookOf};
+ghost use Rattle.sheet.specs.Answers.{EditAnswered, editedAs};
 ghost use Rattle.sheet.specs.Change.{cut, removed, requalified, barred};
 use crate::Edited;
 use crate::Refusal;
@@ -14,6 +15,8 @@ use crate::Sheet;
 use crate::enter_part;
 use crate::kept_in;
 use crate::listed;
+use crate::place_or;
+use crate::row_of;
 use crate::within;
 
 impl Sheet {
@@ -22,17 +25,32 @@ impl Sheet {
         requires { ⌜ Sound self ⌝ }
         ensures { λ r. ⌜ EditAnswered self (adding minutes (now (list .entry))) r ⌝ }
     {
-        let n = self.n;
-        let m = self.m;
-        if n >= Sheet::BATCHES {
+        if self.n >= Sheet::BATCHES {
             return Edited {
                 refusal: Refusal::SheetFull,
                 sheet: self,
             };
         }
+        self.with_row(minutes, 0, 0, list)
+    }
+
+    // One batch more, the last, judged in the order of a batch line: length, mark, list, place, for which the first listed is taken where it
+    // is 0 and the batch has not started.
+    pub fn with_row(self, minutes: u32, place: u32, mark: u32, list: &[u32]) -> Edited
+        requires { ⌜ Sound self ⌝ ∗ ⌜ size (bookOf self) < 200 ⌝ }
+        ensures { λ r. ⌜ r ≡ editedAs self
+            (withRow (bookOf self) (record { minutes = minutes; place = place; mark = mark; list = now (list .entry) })) ⌝ }
+    {
+        let m = self.m;
         if !within(minutes as usize, Sheet::MINUTES) {
             return Edited {
                 refusal: Refusal::BadLength,
+                sheet: self,
+            };
+        }
+        if 1 < mark {
+            return Edited {
+                refusal: Refusal::Malformed,
                 sheet: self,
             };
         }
@@ -43,8 +61,15 @@ impl Sheet {
             };
         }
         let row = row_of(list);
-        let place = row[0];
-        let sheet = self.appended(minutes as u16, place, 0, list.len() as u8, row);
+        let p = place_or(place, mark as u8, row[0]);
+        let count = list.len();
+        if !listed(&row, 0, count, p) {
+            return Edited {
+                refusal: Refusal::BadPlace,
+                sheet: self,
+            };
+        }
+        let sheet = self.appended(minutes as u16, p as u8, mark as u8, count as u8, row);
         Edited {
             refusal: Refusal::Nothing,
             sheet,
@@ -253,20 +278,6 @@ fn named_from(list: &[u32], from: usize, x: u32) -> bool
         i += 1;
     }
     false
-}
-
-// A list as a row of a sheet.
-fn row_of(list: &[u32]) -> [u8; 24]
-    requires { ⌜ length (now list) ≤ 24 ⌝ ∗ ⌜ ((i : ℕ) → i < length (now list) → getD (now list) i 0 < 256) ⌝ }
-    ensures { λ r. ⌜ r ≡ padded 24 (now (list .entry)) ⌝ }
-{
-    let mut row = [0u8; 24];
-    let mut i = 0;
-    while i < list.len() {
-        row[i] = list[i] as u8;
-        i += 1;
-    }
-    row
 }
 
 // The entries from at + by on move down by by; the last ones are 0.

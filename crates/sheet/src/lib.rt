@@ -1,13 +1,14 @@
 // The sheet: m instruments with their calibrations, and up to 200 batches, read from a file and edited. A sheet goes in by value and comes
 // back.
 ghost use mathlib.Core.Path.{_≡_};
-ghost use Prim.Native.Nat.{_+_, _<_, _≤_};
-ghost use lib.Dec.{leb};
-ghost use lib.ListN.{length, take, drop};
+ghost use mathlib.Core.Bool.{not};
+ghost use Prim.Native.Nat.{ℕ, _+_, _<_, _≤_};
+ghost use lib.Dec.{leb, eqb};
+ghost use lib.ListN.{length, getD, take, drop};
 ghost use lib.Seq.{paste};
-ghost use Rattle.rules.specs.Fold.{_and_, mem};
+ghost use Rattle.rules.specs.Fold.{_and_, mem, pick};
 ghost use Rattle.rules.specs.Edit.{kept};
-ghost use Rattle.sheet.specs.Represent.{appended, blank};
+ghost use Rattle.sheet.specs.Represent.{padded, appended, blank};
 ghost use Rattle.sheet.specs.Answers.{numberOf};
 
 pub mod edit;
@@ -28,6 +29,7 @@ pub enum Refusal {
     BufferShort,
     BadCalibration,
     HasStarted,
+    BadWorklist,
 }
 
 // A refusal's number; 0 for none.
@@ -47,6 +49,7 @@ pub fn code(refusal: Refusal) -> u32
         Refusal::BufferShort => 9,
         Refusal::BadCalibration => 10,
         Refusal::HasStarted => 11,
+        Refusal::BadWorklist => 12,
     }
 }
 
@@ -166,4 +169,31 @@ fn within(x: usize, k: usize) -> bool
         return false;
     }
     x <= k
+}
+
+// A list as a row of a sheet.
+fn row_of(list: &[u32]) -> [u8; 24]
+    requires { ⌜ length (now list) ≤ 24 ⌝ ∗ ⌜ ((i : ℕ) → i < length (now list) → getD (now list) i 0 < 256) ⌝ }
+    ensures { λ r. ⌜ r ≡ padded 24 (now (list .entry)) ⌝ }
+{
+    let mut row = [0u8; 24];
+    let mut i = 0;
+    while i < list.len() {
+        row[i] = list[i] as u8;
+        i += 1;
+    }
+    row
+}
+
+// The place p, or the first listed where p is 0 and the batch has not started.
+fn place_or(p: u32, started: u8, first: u8) -> u32
+    ensures { λ r. ⌜ r ≡ pick (not (eqb started 1) and eqb p 0) first p ⌝ }
+{
+    if started == 1 {
+        return p;
+    }
+    if p == 0 {
+        return first as u32;
+    }
+    p
 }

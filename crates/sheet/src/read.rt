@@ -1,12 +1,12 @@
 // Reading a sheet: lines, and the whole, each up to the first fault it meets.
 ghost use mathlib.Core.Path.{_≡_};
-ghost use mathlib.Core.Bool.{not};
 ghost use mathlib.Core.List.{[]};
 ghost use Prim.Native.Nat.{_≤_, _<_};
 ghost use lib.Dec.{eqb};
 ghost use lib.ListN.{length, take, drop};
-ghost use Rattle.rules.specs.Fold.{_and_, pick};
-ghost use Rattle.rules.specs.Read.{calibrationLine, batchLine, batchLines, linesAfter};
+ghost use Rattle.rules.specs.Sheet.{goodCalibrations};
+ghost use Rattle.rules.specs.Read.{calibrationLine, batchLine, batchLines, linesAfter, read as reading};
+ghost use Rattle.theory.proofs.Worklist.{given};
 ghost use Rattle.sheet.specs.Represent.{padded};
 ghost use Rattle.sheet.specs.Lines.{noCalibrations, calibratedAs, noLine, lineAs, lineList, unread};
 ghost use Rattle.sheet.specs.Answers.{readAs, ReadAnswered};
@@ -15,6 +15,8 @@ use crate::Refusal;
 use crate::Sheet;
 use crate::enter_part;
 use crate::listed;
+use crate::place_or;
+use crate::row_of;
 use crate::within;
 use fields::Field;
 use fields::ends_at;
@@ -99,19 +101,6 @@ impl Line {
             next: 0,
         }
     }
-}
-
-// The place p, or the first listed where p is 0 and the batch has not started.
-fn place_or(p: u32, started: u8, first: u8) -> u32
-    ensures { λ r. ⌜ r ≡ pick (not (eqb started 1) and eqb p 0) first p ⌝ }
-{
-    if started == 1 {
-        return p;
-    }
-    if p == 0 {
-        return first as u32;
-    }
-    p
 }
 
 // A batch line from its list on: the instruments, each judged at its own field, the LF, and then the place, for which the first
@@ -199,7 +188,7 @@ fn batch_line(s: &[u8], at: usize, line: usize, m: usize) -> Line
 }
 
 // A sheet that is refused at a line: the blank value stands in the sheet's place.
-fn refused_at(refusal: Refusal, line: usize) -> Reading
+pub fn refused_at(refusal: Refusal, line: usize) -> Reading
     ensures { λ r. ⌜ r ≡ unread refusal line ⌝ }
 {
     let sheet = Sheet::new();
@@ -271,9 +260,51 @@ fn lines_after(s: &[u8], at: usize, m: usize, n: usize) -> Reading
     batch_lines(s, c.next, m, n, calibrations)
 }
 
+// One for each of the m instruments, each at most 240.
+fn good_calibrations(l: &[u32], m: usize) -> bool
+    ensures { λ r. ⌜ r ≡ goodCalibrations m (now (l .entry)) ⌝ }
+{
+    if l.len() != m {
+        return false;
+    }
+    let mut i = 0;
+    while i < l.len() {
+        if Sheet::CALIBRATION < l[i] as usize {
+            return false;
+        }
+        i += 1;
+    }
+    true
+}
+
+impl Sheet {
+    // A sheet without a batch. Refused, with line 0, where m is not 1 to 24, or where there is not one calibration of at most 240 for each
+    // instrument.
+    pub fn bare(m: u32, calibrations: &[u32]) -> Reading
+        ensures { λ r. ⌜ r ≡ readAs (given m (now (calibrations .entry))) ⌝ }
+    {
+        let size = m as usize;
+        if !within(size, Sheet::INSTRUMENTS) {
+            return refused_at(Refusal::BadSize, 0);
+        }
+        if !good_calibrations(calibrations, size) {
+            return refused_at(Refusal::BadCalibration, 0);
+        }
+        let row = row_of(calibrations);
+        let mut sheet = Sheet::new();
+        sheet.m = size;
+        sheet.calibrations = row;
+        Reading {
+            refusal: Refusal::Nothing,
+            line: 0,
+            sheet,
+        }
+    }
+}
+
 // The sheet that s holds, or the refusal of the first fault and its line. Line 1 has m and n.
 pub fn read(s: &[u8]) -> Reading
-    ensures { λ r. ⌜ ReadAnswered (now (s .entry)) r ⌝ }
+    ensures { λ r. ⌜ ReadAnswered (reading (now (s .entry))) r ⌝ }
 {
     let Field::Value(m) = field_at(s, 0) else {
         return refused_at(Refusal::Malformed, 1);

@@ -6,15 +6,16 @@ use mathlib.Core.List.{List, [], _∷_, _++_, map, append-nil, append-assoc}
 use native.Mathlib.Omega.{arith}
 use lib.ListN.{length, drop, replicate}
 use lib.Seq.{drop-at}
-use lib.Dec.{leb, eqb}
-use borrow.Author.Tests.{leb-true, eqb-true, eqb-false, ne-eqb, not-true}
+use lib.Dec.{leb, ltb, eqb}
+use borrow.Author.Tests.{leb-true, ltb-true, eqb-true, eqb-false, lt-ltb, ne-eqb, not-true}
 use Rattle.rules.specs.Fold.{_and_, _or_, mem, every}
+use Rattle.rules.specs.Refusal.{badList}
 use Rattle.rules.specs.Sheet.{Batch, maxBatches, goodInstruments, goodMinutes, goodCalibration, goodCalibrations, isInstrument, distinct, goodList}
 use Rattle.rules.specs.Field.{Field}
-use Rattle.rules.specs.Read.{gives, fieldPart, numberAt, blankZero, placeAt, endOfLine, headLine, calibrationsAt, calibrationLine, markAt, instrumentsAt, goodPlace, batchLine, accepted, batchLines, linesAfter, read}
+use Rattle.rules.specs.Read.{gives, orRefuse, fieldPart, numberAt, blankZero, placeAt, endOfLine, headLine, calibrationsAt, calibrationLine, markAt, instrumentsAt, goodPlace, batchLine, accepted, batchLines, linesAfter, read}
 use Rattle.rules.specs.Render.{columns, fields, line, Given, numbered, leftBlank, givenNumber, givenColumns, mark, Described, Description, renderBatch, renderBatches, render, batchWithinLimits, withinLimits, placed, bookSaid}
-use Rattle.theory.proofs.Logic.{and-left, and-right, and-mk, not-mk, or-cases, or-none}
-use Rattle.theory.proofs.Member.{mem-append, every-mem}
+use Rattle.theory.proofs.Logic.{byTest, conflict, and-left, and-right, and-mk, and-no-right, not-mk, or-cases, or-none, or-skip}
+use Rattle.theory.proofs.Member.{mem-append, every-mem, every-mk}
 use Rattle.theory.proofs.Field.{columns-length, field-columns, field-blanks}
 
 -- ---- fields
@@ -47,7 +48,7 @@ mark-read true xs r = rw (number-read 1 xs r (omega arith))
 mark-read false xs r = rw (number-read 0 xs r (omega arith))
 
 -- a place before the rest of the file
-place-read : (p : Given) (s : List ℕ) → givenNumber p < 10 ^ 6 → placeAt (givenColumns p ++ s) ≡ gives (givenNumber p) s
+pub place-read : (p : Given) (s : List ℕ) → givenNumber p < 10 ^ 6 → placeAt (givenColumns p ++ s) ≡ gives (givenNumber p) s
 unfolding placeAt
 place-read (numbered x) s h =
     ap (λ (f : Field). fieldPart (blankZero f) (drop 6 (columns 6 x ++ s))) (field-columns x s h)
@@ -66,22 +67,47 @@ distinct-mid (y ∷ l) x r e =
     let c = or-none (eqb x y) (mem y r) (b .1) in
     rw (ne-eqb y x (λ q. eqb-false x y (c .0) (sym q))) (distinct-mid l x r (and-right (not (mem y (l ++ (x ∷ r)))) _ e))
 
+-- one that is not in a list without repeats may be added
+pub distinct-snoc : (l : List ℕ) (x : ℕ) → distinct l ≡ true → mem x l ≡ false → distinct (l ++ (x ∷ [])) ≡ true
+unfolding distinct mem
+distinct-snoc [] x d e = and-mk _ _ refl refl
+distinct-snoc (y ∷ l) x d e =
+    let a : mem y l ≡ false = not-true _ (and-left _ _ d) in
+    let b = or-none (eqb y x) (mem x l) e in
+    let c : eqb x y ≡ false = ne-eqb x y (λ q. eqb-false y x (b .0) (sym q)) in
+    let f : mem y (l ++ (x ∷ [])) ≡ false = mem-append l (x ∷ []) y ∙ or-skip _ a ∙ or-skip _ c in
+    and-mk _ _ (not-mk f) (distinct-snoc l x (and-right (not (mem y l)) _ d) (b .1))
+
 -- the limits keep every number within its field
 instrument-small : (m i : ℕ) → m ≤ 24 → isInstrument m i ≡ true → i < 10 ^ 6
 unfolding isInstrument
 instrument-small m i h e = let u : i ≤ m = leb-true i m (and-right (leb 1 i) _ e) in omega arith
 
-pub instruments-read : (m : ℕ) (xs l r : List ℕ) → m ≤ 24 → every (isInstrument m) xs ≡ true → distinct (l ++ xs) ≡ true
-    → instrumentsAt m (length xs) l (fields xs ++ r) ≡ gives (l ++ xs) r
-unfolding instrumentsAt every fields
-instruments-read m [] l r h e d = ap (λ (u : List ℕ). gives u r) (sym (append-nil l))
-instruments-read m (x ∷ xs) l r h e d =
-    let a : isInstrument m x ≡ true = and-left _ _ e in
-    let t : isInstrument m x and not (mem x l) ≡ true = and-mk _ _ a (not-mk (distinct-mid l x xs d)) in
-    let q : (l ++ (x ∷ [])) ++ xs ≡ l ++ (x ∷ xs) = append-assoc l (x ∷ []) xs in
-    rw (number-read x xs r (instrument-small m x h a), t)
-    (instruments-read m xs (l ++ (x ∷ [])) r h (and-right (isInstrument m x) _ e) (rw (← q) at d)
-    ∙ ap (λ (u : List ℕ). gives u r) q)
+-- a number that its field holds
+abbrev pub fits : ℕ → Bool
+fits x = ltb x 1000000
+
+listed-fit : (m : ℕ) (l : List ℕ) → m ≤ 24 → every (isInstrument m) l ≡ true → every fits l ≡ true
+listed-fit m l h e = every-mk fits l (λ i q. lt-ltb i _ (instrument-small m i h (every-mem (isInstrument m) l i e q)))
+
+-- after the members l, where each is judged at its own field
+pub instruments-read : (m : ℕ) (xs l r : List ℕ) → every fits xs ≡ true → distinct l ≡ true
+    → instrumentsAt m (length xs) l (fields xs ++ r)
+    ≡ orRefuse (every (isInstrument m) xs and distinct (l ++ xs)) badList (gives (l ++ xs) r)
+unfolding instrumentsAt every fields _and_
+instruments-read m [] l r e d = rw (append-nil l, d)
+instruments-read m (x ∷ xs) l r e d =
+    rw (number-read x xs r (ltb-true x _ (and-left _ _ e)))
+    (byTest (isInstrument m x)
+    (λ a. byTest (mem x l)
+    (λ b.
+    let d : distinct (l ++ (x ∷ xs)) ≡ false = byTest _ (λ t. conflict b (distinct-mid l x xs t)) (λ t. t) in
+    let n : every (isInstrument m) xs and distinct (l ++ (x ∷ xs)) ≡ false = and-no-right (every (isInstrument m) xs) _ d in
+    rw (a, b, n))
+    (λ b. rw (a, b)
+    (instruments-read m xs (l ++ (x ∷ [])) r (and-right (fits x) _ e) (distinct-snoc l x d b)
+    ∙ ap (λ (u : List ℕ). orRefuse (every (isInstrument m) xs and distinct u) badList (gives u r)) (append-assoc l (x ∷ []) xs))))
+    (λ a. rw a))
 
 -- ---- a batch line
 
@@ -139,7 +165,7 @@ batch-rest b r = simp append-assoc
 
 pub batch-read : (m : ℕ) (b : Described) (r : List ℕ) → m ≤ 24 → batchWithinLimits m b ≡ true
     → batchLine m (renderBatch b ++ r) ≡ gives (placed b) r
-unfolding batchLine endOfLine
+unfolding batchLine endOfLine distinct
 batch-read m b r h e =
     let f = batch-within-is m b e in
     let g = good-list-is m (b .list) (f .list) in
@@ -152,7 +178,8 @@ batch-read m b r h e =
       mark-read (b .started) (length (b .list) ∷ b .list) (10 ∷ r),
       number-read (length (b .list)) (b .list) (10 ∷ r) (count-small m _ h (g .count)),
       g .count,
-      instruments-read m (b .list) [] (10 ∷ r) h (g .ranged) (g .apart),
+      instruments-read m (b .list) [] (10 ∷ r) (listed-fit m (b .list) h (g .ranged)) refl,
+      and-mk _ _ (g .ranged) (g .apart),
       f .place,
     )
 
@@ -221,11 +248,11 @@ within-is d e =
       batches = and-right (leb (length (d .batches)) maxBatches) _ s;
     }
 
-few : (m : ℕ) → goodInstruments m ≡ true → m ≤ 24
+pub few : (m : ℕ) → goodInstruments m ≡ true → m ≤ 24
 unfolding goodInstruments
 few m e = leb-true m 24 (and-right (leb 1 m) _ e)
 
-head-read : (m n : ℕ) (r : List ℕ) → goodInstruments m ≡ true → leb n maxBatches ≡ true
+pub head-read : (m n : ℕ) (r : List ℕ) → goodInstruments m ≡ true → leb n maxBatches ≡ true
     → headLine (line (m ∷ n ∷ []) ++ r) ≡ gives (record { m = m; n = n }) r
 unfolding headLine endOfLine fields
 head-read m n r e f =

@@ -44,6 +44,8 @@ pub mod Jobs
 pub mod Started
 pub mod Limits
 pub mod Rewrite
+pub mod Worklist
+pub mod Taken
 pub mod Planning
 pub mod Runs
 pub mod Iterate

@@ -6,24 +6,23 @@ use mathlib.Core.List.{List, [], _∷_, _++_, map, append-nil, append-assoc}
 use native.Mathlib.Omega.{arith}
 use lib.ListN.{length, drop}
 use lib.Dec.{leb, eqb}
-use borrow.Author.Tests.{leb-true, eqb-true, eqb-false, eq-eqb, ne-eqb, not-true}
+use borrow.Author.Tests.{leb-true, eqb-true, eq-eqb, not-true}
 use Rattle.rules.specs.Fold.{_and_, mem, every}
 use Rattle.rules.specs.Refusal.{Refusal}
 use Rattle.rules.specs.Sheet.{Book, Batch, maxBatches, goodInstruments, goodMinutes, goodCalibration, goodCalibrations, isInstrument, distinct, goodList}
 use Rattle.rules.specs.Field.{Field, value, blank, fault, field}
 use Rattle.rules.specs.Read.{Part, gives, refuses, andThen, orRefuse, fieldPart, numberAt, blankZero, placeAt, endOfLine, Head, headLine, calibrationsAt, calibrationLine, markAt, instrumentsAt, goodPlace, batchLine, Reading, accepted, refusedAt, onLine, batchLines, linesAfter, read}
 use Rattle.rules.specs.Render.{columns, fields, line, Given, numbered, leftBlank, givenNumber, givenColumns, mark, Described, Description, renderBatch, renderBatches, render, batchWithinLimits, withinLimits, placed, bookSaid}
-use Rattle.theory.proofs.Logic.{and-left, and-right, and-mk, not-mk, or-none, or-skip}
-use Rattle.theory.proofs.Member.{mem-append}
+use Rattle.theory.proofs.Logic.{and-left, and-right, and-mk}
 use Rattle.theory.proofs.Field.{field-value, field-blank}
-use Rattle.theory.proofs.Format.{mark-said, line-rest, batch-rest}
+use Rattle.theory.proofs.Format.{mark-said, distinct-snoc, line-rest, batch-rest}
 
 -- ---- a part that gives, and what the rest of a proof is told of it
 
 no-part {ℓ} : {X : Type 0} {Y : Type ℓ} {e : Refusal} {x : X} {r : List ℕ} → refuses e ≡ gives x r → Y
 no-part e = absurd (let z : _≡_ {A = ℕ} 0 1 = cc in omega arith)
 
-no-reading {ℓ} : {Y : Type ℓ} {e : Refusal} {j : ℕ} {k : Book} → refusedAt e j ≡ accepted k → Y
+pub no-reading {ℓ} : {Y : Type ℓ} {e : Refusal} {j : ℕ} {k : Book} → refusedAt e j ≡ accepted k → Y
 no-reading e = absurd (let z : _≡_ {A = ℕ} 0 1 = cc in omega arith)
 
 module _ {X C : Type 0} where
@@ -94,16 +93,6 @@ number-wrote r v s xs u e h =
     append-assoc (columns 6 v) (fields xs) u ∙ ap (λ (z : List ℕ). columns 6 v ++ z) h ∙ sym (number-gives r v s e)
 
 -- ---- a list of instruments
-
-distinct-snoc : (l : List ℕ) (x : ℕ) → distinct l ≡ true → mem x l ≡ false → distinct (l ++ (x ∷ [])) ≡ true
-unfolding distinct mem
-distinct-snoc [] x d e = and-mk _ _ refl refl
-distinct-snoc (y ∷ l) x d e =
-    let a : mem y l ≡ false = not-true _ (and-left _ _ d) in
-    let b = or-none (eqb y x) (mem x l) e in
-    let c : eqb x y ≡ false = ne-eqb x y (λ q. eqb-false y x (b .0) (sym q)) in
-    let f : mem y (l ++ (x ∷ [])) ≡ false = mem-append l (x ∷ []) y ∙ or-skip _ a ∙ or-skip _ c in
-    and-mk _ _ (not-mk f) (distinct-snoc l x (and-right (not (mem y l)) _ d) (b .1))
 
 -- the instruments read, after those of l
 record Listed (m c : ℕ) (l r k s : List ℕ) : Type 0 where

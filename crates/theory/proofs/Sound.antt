@@ -2,7 +2,7 @@
 use Prim.Native.Nat.{ℕ, zero, suc, _-_, _≤_, _<_}
 use mathlib.Core.Path.{_≡_, refl, subst}
 use mathlib.Core.Bool.{Bool, true, false, not}
-use mathlib.Core.List.{List, [], _∷_, map}
+use mathlib.Core.List.{List, [], _∷_, _++_, map}
 use native.Mathlib.Omega.{arith}
 use lib.ListN.{length, getD, length-append, length-set, length-map}
 use lib.Dec.{leb, ltb, eqb}
@@ -10,7 +10,7 @@ use borrow.Author.Tests.{leb-true, ltb-true, eqb-true, le-leb, not-true}
 use Rattle.rules.specs.Fold.{_and_, at, mem, every}
 use Rattle.rules.specs.Refusal.{Refusal}
 use Rattle.rules.specs.Sheet.{Batch, Book, waiting, size, batch, noBatchHere, isBatch, head, maxBatches, goodInstruments, goodMinutes, goodCalibrations, isInstrument, goodList, goodBatch, sound}
-use Rattle.rules.specs.Edit.{Edit, add, withdraw, requalify, move, start, Edited, edited, unless, kept, without, withBatch, ifWaiting, edit}
+use Rattle.rules.specs.Edit.{Edit, add, withdraw, requalify, move, start, Edited, edited, unless, kept, without, withBatches, withBatch, ifWaiting, edit}
 use Rattle.rules.specs.Read.{accepted, placeOr, goodPlace, read}
 use Rattle.rules.specs.Render.{givenNumber, Described, Description, batchWithinLimits, withinLimits, placed, bookSaid}
 use Rattle.theory.proofs.Logic.{byTest, conflict, and-left, and-right, and-mk, or-cases}
@@ -87,7 +87,7 @@ kept-listed p l h = byTest (mem p l) (λ t. rw t t) (λ t. rw t (first-listed l 
 -- ---- reading
 
 -- a place not given is the first listed
-place-listed : (s : Bool) (p : ℕ) (l : List ℕ) → 0 < length l → goodPlace s p l ≡ true → mem (placeOr p l) l ≡ true
+pub place-listed : (s : Bool) (p : ℕ) (l : List ℕ) → 0 < length l → goodPlace s p l ≡ true → mem (placeOr p l) l ≡ true
 unfolding goodPlace
 place-listed s zero l h e = first-listed l h
 place-listed s (suc p) l h e =
@@ -124,7 +124,7 @@ read-sound s k e =
 
 -- ---- edits
 
-passes : (t : Bool) (e : Refusal) (o : Edited) (j : Book) → unless t e o ≡ edited j → (t ≡ true) × (o ≡ edited j)
+pub passes : (t : Bool) (e : Refusal) (o : Edited) (j : Book) → unless t e o ≡ edited j → (t ≡ true) × (o ≡ edited j)
 passes true e o j h = (refl, h)
 passes false e o j h = absurd (let z : _≡_ {A = ℕ} 0 1 = cc in omega arith)
 
@@ -166,8 +166,19 @@ with-sound k b c s g =
       batches = every-set (goodBatch (k .m)) (k .batches) (b - 1) c (s .batches) (is-good (k .m) c g);
     }
 
+-- one batch more
+pub appended-sound : (k : Book) (c : Batch) → SoundBook k → Good (k .m) c → size k < maxBatches
+    → SoundBook (withBatches k (k .batches ++ (c ∷ [])))
+appended-sound k c s g h =
+    record {
+      instruments = s .instruments;
+      calibrations = s .calibrations;
+      room = omega (arith, length-append (k .batches) (c ∷ []));
+      batches = every-append (goodBatch (k .m)) (k .batches) (c ∷ []) (s .batches) (every-one (goodBatch (k .m)) c (is-good (k .m) c g));
+    }
+
 -- the book that an edit gives
-gave : {k j : Book} → SoundBook k → edited k ≡ edited j → sound j ≡ true
+pub gave : {k j : Book} → SoundBook k → edited k ≡ edited j → sound j ≡ true
 gave {k} {j} s e = let q : k ≡ j = cc in rw q at (is-sound k s)
 
 pub edit-sound : (k : Book) (e : Edit) (j : Book) → sound k ≡ true → edit k e ≡ edited j → sound j ≡ true
@@ -178,16 +189,8 @@ edit-sound k (add t l) j v e =
     let b = passes (goodMinutes t) _ _ j (a .1) in
     let c = passes (goodList (k .m) l) _ _ j (b .1) in
     let x = waiting t l (head l) in
-    let h : size k < maxBatches = ltb-true _ _ (a .0) in
     let g : Good (k .m) x = record { minutes = b .0; list = c .0; place = first-listed l (good-some (k .m) l (c .0)) } in
-    gave (record {
-      instruments = s .instruments;
-      calibrations = s .calibrations;
-      room = omega (arith, length-append (k .batches) (x ∷ []));
-      batches =
-          every-append (goodBatch (k .m)) (k .batches) (x ∷ []) (s .batches)
-          (every-one (goodBatch (k .m)) x (is-good (k .m) x g));
-    }) (c .1)
+    gave (appended-sound k x s g (ltb-true _ _ (a .0))) (c .1)
 edit-sound k (withdraw b) j v e =
     let s = sound-is k v in
     gave (record {

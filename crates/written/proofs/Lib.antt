@@ -2,3 +2,4 @@ pub mod Lines
 pub mod Writing
 pub mod Left
 pub mod Bounded
+pub mod Taken

@@ -7,12 +7,13 @@ use lib.ListN.{length, getD, take, drop, length-append, length-map}
 use lib.Seq.{paste}
 use Rattle.rules.specs.Sheet.{Batch, size}
 use Rattle.rules.specs.Render.{line, mark, Described, renderBatch, renderBatches, render, describedBatch}
+use Rattle.rules.specs.Read.{read}
 use Rattle.rules.specs.Rewrite.{written}
 use Rattle.theory.proofs.Fields.{line-length}
 use Rattle.theory.proofs.Rewrite.{read-written}
 use Rattle.sheet.specs.declared.Sheet.{Sheet}
 use Rattle.sheet.specs.declared.Refusal.the-variants.{Nothing}
-use Rattle.sheet.specs.Answers.{readAs, readOf}
+use Rattle.sheet.specs.Answers.{readAs}
 use Rattle.sheet.specs.Represent.{padded, rows, batchAt, batchesTo, bookOf, Sound}
 use Rattle.sheet.proofs.SoundArrays.{book-m, book-size, few-batches, narrow-book, list-size, mark-small}
 use Rattle.sheet.proofs.Padded.{length-padded}
@@ -157,6 +158,5 @@ module _ (s : Sheet) (v : Sound s) where
 
 -- ---- and read again: the very same sheet
 
-pub read-back : (s : Sheet) → Sound s → readOf (written (bookOf s)) ≡ record { refusal = Nothing; line = 0; sheet = s }
-unfolding readOf
+pub read-back : (s : Sheet) → Sound s → readAs (read (written (bookOf s))) ≡ record { refusal = Nothing; line = 0; sheet = s }
 read-back s v = ap readAs (read-written (bookOf s) (v .book)) ∙ ap (λ (t : Sheet). record { refusal = Nothing; line = 0; sheet = t }) (v .arrays)

@@ -1,2 +1,3 @@
-// A sheet written back to a file, in the form that the reader takes.
+// A sheet written to a file, in the form that the reader takes: written back, or for the first time from a worklist.
+pub mod take;
 pub mod write;

@@ -77,10 +77,7 @@ pub fn listing_due(sheet: &[u8]) -> Due {
 
 /// A sheet as the second planner writes it back.
 pub fn rewritten_due(sheet: &[u8]) -> Due {
-    match second::read(sheet) {
-        Ok(sheet) => Due::Text(second::write(&sheet)),
-        Err(fault) => Due::fault(fault),
-    }
+    Due::sheet(second::read(sheet))
 }
 
 /// What a buffer or a list is made of.

@@ -1,6 +1,6 @@
 //! What a call from outside has to return and to write.
 
-use second::Fault;
+use second::{Fault, Sheet};
 
 use crate::Hosted;
 
@@ -12,12 +12,17 @@ pub enum Due {
 }
 
 impl Due {
-    /// What is due where reading the sheet finds this fault.
+    /// What is due where reading the sheet, or taking the worklist, finds this fault.
     pub fn fault(fault: Fault) -> Due {
         Due::Refused {
             refusal: fault.refusal.number(),
             line: fault.line as usize,
         }
+    }
+
+    /// The sheet that was read or taken, written, or the fault that was found.
+    pub fn sheet(read: Result<Sheet, Fault>) -> Due {
+        read.map_or_else(Due::fault, |sheet| Due::Text(second::write(&sheet)))
     }
 
     /// How many bytes the text has; for a refusal `least`.

@@ -1,8 +1,8 @@
 //! The planner as a host program calls it: bytes go in, and a text comes back
 //! in a lent buffer. From a sheet it is the listing; from a sheet and a journal
-//! the answers to the journal's calls, or the sheet as these leave it. Balance
-//! and settle take a sheet alone and give it back, with records of their moves
-//! in a lent list.
+//! the answers to the journal's calls, or the sheet as these leave it; from a
+//! worklist, with the bank's calibrations, its sheet. Balance and settle take a
+//! sheet alone and give it back, with records of their moves in a lent list.
 
 pub mod astray;
 pub mod cases;
@@ -19,8 +19,8 @@ pub mod share;
 pub mod told;
 
 /// What every call returns: refusal 0 and how many bytes the text has, or a
-/// refusal of the sheet or the journal with its line (0 where the buffer is
-/// too short) and length 0.
+/// refusal of the sheet or the journal with its line, or of the worklist with its
+/// row (0 where the buffer is too short) and length 0.
 #[repr(C)]
 #[derive(Clone, Copy, Debug, PartialEq, Eq)]
 pub struct Hosted {
@@ -117,6 +117,16 @@ extern "C" {
         written: *mut u8,
         written_len: usize,
     ) -> Settled;
+
+    fn bankplan_take(
+        instruments: u32,
+        calibrations: *const u32,
+        calibrations_len: usize,
+        worklist: *const u8,
+        worklist_len: usize,
+        sheet: *mut u8,
+        sheet_len: usize,
+    ) -> Hosted;
 }
 
 /// The sheet of document 01's first case.
@@ -226,6 +236,24 @@ pub fn settle(sheet: &[u8], moves: &mut [Move], written: &mut [u8]) -> Settled {
             moves.len(),
             written.as_mut_ptr(),
             written.len(),
+        )
+    }
+}
+
+/// Take the worklist on so many instruments with these calibrations, and write
+/// its sheet to the front of the buffer. This is the proved code.
+pub fn take(instruments: u32, calibrations: &[u32], worklist: &[u8], sheet: &mut [u8]) -> Hosted {
+    // SAFETY: the call takes any number, any entries, any bytes and any three
+    // lengths, reads the first two slices, writes to the third and keeps none.
+    unsafe {
+        bankplan_take(
+            instruments,
+            calibrations.as_ptr(),
+            calibrations.len(),
+            worklist.as_ptr(),
+            worklist.len(),
+            sheet.as_mut_ptr(),
+            sheet.len(),
         )
     }
 }

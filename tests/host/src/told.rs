@@ -1,11 +1,11 @@
-//! What the calls say of a sheet and a journal given as text: the text that they
-//! write, or a refusal and its line.
+//! What the calls say of a sheet and a journal given as text, or of a worklist: the
+//! text that they write, or a refusal and its line or row.
 
 use second::Draft;
 
-use crate::{balance, plan, rewrite, run, settle, text, write, Move, LARGEST_SHEET};
+use crate::{balance, plan, rewrite, run, settle, take, text, write, Move, LARGEST_SHEET};
 
-/// A text, or a refusal and its line.
+/// A text, or a refusal and its line or row.
 pub type Told = Result<String, (u32, usize)>;
 
 pub fn listed(sheet: &str) -> Told {
@@ -25,11 +25,16 @@ pub fn left(sheet: &str, journal: &str) -> Told {
     text(|written| write(sheet.as_bytes(), journal.as_bytes(), written))
 }
 
+/// The sheet of a worklist.
+pub fn taken(instruments: u32, calibrations: &[u32], worklist: &[u8]) -> Told {
+    text(|sheet| take(instruments, calibrations, worklist, sheet))
+}
+
 pub fn file(draft: &Draft) -> String {
     String::from_utf8(draft.render()).expect("plain text")
 }
 
-/// The refusal and the line that all five calls give for a sheet.
+/// The refusal and the line that the five calls which read a sheet give for it.
 pub fn refused(sheet: &str) -> (u32, usize) {
     let fault = listed(sheet).expect_err(sheet);
     assert_eq!(answers(sheet, "     5\n"), Err(fault));

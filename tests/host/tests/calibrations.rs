@@ -4,11 +4,11 @@
 use host::filed::made;
 use host::journal::journal;
 use host::told::{answers, file, listed, numbers, refused, written};
-use host::{balance, plan, run, settle, write, Move, LARGEST_SHEET, SHEET};
+use host::{balance, plan, run, settle, take, write, Move, LARGEST_SHEET, SHEET};
 use second::gen::{self, Shape};
 use second::rng::Rng;
 use second::trial::{Act, State};
-use second::{trial, Call, Draft, Verdict};
+use second::{exports, trial, Call, Draft, Verdict};
 
 /// Each calibration at its limits, with all others at theirs.
 #[test]
@@ -417,15 +417,17 @@ fn calibrations_are_often_bumped() {
     assert!(passed >= 100 && failed >= 500);
 }
 
-/// The stack that the header asks for is enough, on the largest sheet there is
-/// and for a journal with every kind of call.
+/// The stack that the header asks for is enough, on the largest sheet there is,
+/// for the largest worklist and for a journal with every kind of call.
 #[test]
 fn the_stack_asked_for() {
     let all: Vec<u32> = (1..=24).collect();
     let lines: Vec<(u32, u32, &[u32])> = (0..200).map(|b| (1 + b * 7, 1, &all[..])).collect();
     let draft = Draft::new(24, &lines).calibrated(&[240; 24]);
-    let sheet = draft.started(&[7, 150, 200]).render();
+    let draft = draft.started(&[7, 150, 200]);
+    let sheet = draft.render();
     assert_eq!(sheet.len(), LARGEST_SHEET);
+    let worklist = exports::worklist(&mut Rng::new(86), &draft);
     let journal = "     2   199\n     1     9     1     1\n     9   198\n     3     1     2     1     2\n     \
                    4     1     2\n     5\n     6     0\n     6 90000\n     7   200\n     8   200\n     \
                    5\n";
@@ -437,8 +439,9 @@ fn the_stack_asked_for() {
             write(&sheet, journal.as_bytes(), &mut buffer).refusal,
             balance(&sheet, &mut moves, &mut buffer).refusal,
             settle(&sheet, &mut moves, &mut buffer).refusal,
+            take(24, &[240; 24], &worklist, &mut buffer).refusal,
         ];
-        assert_eq!(done, [0; 5]);
+        assert_eq!(done, [0; 6]);
     };
     let thread = std::thread::Builder::new().stack_size(128 << 10);
     thread.spawn(calls).unwrap().join().unwrap();

@@ -1,4 +1,5 @@
-//! The programs `bankrun` and `bankwrite` on files, beside the second planner.
+//! The programs `bankrun`, `bankwrite` and `banktake` on files, beside the second
+//! planner.
 //! `BANKPLAN_RUNS` says how many random runs are made, if not the usual number.
 
 use std::env;
@@ -13,8 +14,10 @@ use host::journal::journal;
 use host::runs::dues;
 use host::share::shared;
 use host::{LARGEST_SHEET, SHEET};
+use second::rng::Rng;
+use second::{corners, exports, gen};
 
-/// The most bytes of a journal and of the answers.
+/// The most bytes of a journal or a worklist, and of the answers.
 const JOURNAL: usize = 262_143;
 const ANSWERS: usize = 262_144;
 
@@ -239,5 +242,192 @@ fn full_output() {
         let [_, error] = printed_to(program, &[&files[0], &files[1]], full.into());
         let said = format!("{program}: No space left on device\n");
         assert_eq!(error, said.as_bytes());
+    }
+    fs::write(&files[0], WORKLIST).expect("a worklist's file");
+    let full = fs::File::create("/dev/full").expect("a device that is always full");
+    let words = [&files[0], Path::new("2"), Path::new("0"), Path::new("0")];
+    let [_, error] = printed_to("banktake", &words, full.into());
+    assert_eq!(error, b"banktake: No space left on device\n");
+}
+
+/// A worklist that says what [`SHEET`] says.
+const WORKLIST: &[u8] = b"30,1,0,\"1,2\"\r\n\"20\",,0,1\r\n10,\"1\",\"0\",\"1,2\"\r\n";
+
+/// What `banktake` prints for this worklist and the words after it.
+fn took(folder: &Folder, worklist: &[u8], words: &[&str]) -> Printed {
+    let file = folder.0.join("worklist");
+    fs::write(&file, worklist).expect("a worklist's file");
+    let mut arguments = vec![file.as_path()];
+    arguments.extend(words.iter().map(Path::new));
+    printed("banktake", &arguments)
+}
+
+/// The same beside the second planner: the sheet, or nothing but the refusal's line
+/// on standard error. Gives the refusal's number.
+fn compare_taken(folder: &Folder, worklist: &[u8], m: u32, calibrations: &[u32]) -> u32 {
+    let words: Vec<String> = [&[m], calibrations]
+        .concat()
+        .iter()
+        .map(u32::to_string)
+        .collect();
+    let words: Vec<&str> = words.iter().map(String::as_str).collect();
+    let found = took(folder, worklist, &words);
+    let (number, due) = match Due::sheet(second::take(m, calibrations, worklist)) {
+        Due::Text(text) => (0, [text, vec![]]),
+        Due::Refused { refusal, line } => (refusal, [vec![], refused(refusal, line)]),
+    };
+    if found != due {
+        let found = found.map(|bytes| String::from_utf8_lossy(&bytes).into_owned());
+        panic!("{found:?}\n{words:?}\n{}", worklist.escape_ascii());
+    }
+    number
+}
+
+/// Worklists good and bad, with calibrations good and bad.
+#[test]
+fn worklists() {
+    let folder = Folder::new();
+    assert_eq!(
+        took(&folder, WORKLIST, &["2", "0", "0"]),
+        [SHEET.as_bytes(), b""]
+    );
+    let mut met = [0; 13];
+    let corners = corners::REFUSED.iter().map(|corner| corner.0);
+    for worklist in corners.chain(corners::TAKEN.iter().map(|corner| corner.0)) {
+        met[compare_taken(&folder, worklist, 2, &corners::CALIBRATIONS) as usize] += 1;
+    }
+    let mut rng = Rng::new(45);
+    for round in 0..400 {
+        let mut draft = gen::draft(&mut rng, [gen::SMALL, gen::MEDIUM, gen::FULL][round % 3]);
+        if draft.lines.is_empty() {
+            continue;
+        }
+        if round % 4 == 0 {
+            gen::misstate(&mut rng, &mut draft);
+        }
+        let mut worklist = exports::worklist(&mut rng, &draft);
+        if round % 5 == 0 {
+            exports::damage(&mut rng, &mut worklist);
+        }
+        let (mut m, mut calibrations) = (draft.instruments, draft.calibrations);
+        match round % 20 {
+            7 => m = *rng.pick(&[0, 25, 26, 256, 999_999]),
+            11 => calibrations.push(0),
+            13 => calibrations[0] = *rng.pick(&[240, 241, 256, 999_999]),
+            _ => {}
+        }
+        met[compare_taken(&folder, &worklist, m, &calibrations) as usize] += 1;
+    }
+    println!("by refusal: {met:?}");
+    for (refusal, least) in [
+        (0, 150),
+        (1, 5),
+        (2, 15),
+        (3, 5),
+        (4, 10),
+        (5, 10),
+        (10, 15),
+        (12, 130),
+    ] {
+        assert!(met[refusal] >= least, "{met:?}");
+    }
+    // Fewer calibrations than instruments, and very many.
+    for (m, given) in [
+        (2, 1),
+        (24, 23),
+        (24, 25),
+        (24, 26),
+        (1, 24),
+        (24, 200),
+        (1, 1_000),
+    ] {
+        assert_eq!(compare_taken(&folder, WORKLIST, m, &vec![0; given]), 10);
+    }
+    assert_eq!(compare_taken(&folder, WORKLIST, 25, &vec![0; 25]), 2);
+    assert_eq!(compare_taken(&folder, WORKLIST, 0, &[241]), 2);
+}
+
+/// The largest sheet, and worklists of the most bytes and of more.
+#[test]
+fn limits_of_worklists() {
+    let folder = Folder::new();
+    let case = cases::largest(46, 1).remove(0);
+    let sheet = second::read(&case.sheet).expect("a sheet");
+    let worklist = exports::worklist(&mut Rng::new(47), &second::Draft::from(&sheet));
+    let (m, calibrations) = (sheet.instruments(), sheet.calibrations());
+    assert_eq!(compare_taken(&folder, &worklist, m, calibrations), 0);
+    // 9 bytes in each of 29,127 rows.
+    let row = b"1,1,0,1\r\n";
+    let mut longest = row.repeat(JOURNAL / row.len());
+    assert_eq!(longest.len(), JOURNAL);
+    assert_eq!(
+        took(&folder, &longest, &["1", "0"]),
+        [vec![], refused(2, 0)]
+    );
+    longest[JOURNAL - 3] = b'x';
+    assert_eq!(
+        took(&folder, &longest, &["1", "0"]),
+        [vec![], refused(12, 29_127)]
+    );
+    let members = "1,".repeat((JOURNAL - 9) / 2);
+    let list = format!("1,1,0,\"{members}1\"");
+    assert_eq!(list.len(), JOURNAL);
+    assert_eq!(
+        took(&folder, list.as_bytes(), &["1", "0"]),
+        [vec![], refused(4, 1)]
+    );
+    for longer in [JOURNAL + 1, JOURNAL + 2, 650_000] {
+        let mut worklist = row.repeat(longer / row.len() + 1);
+        worklist.truncate(longer);
+        assert_eq!(
+            took(&folder, &worklist, &["1", "0"]),
+            [vec![], refused(12, 0)]
+        );
+        // What is wrong with the numbers comes before the file.
+        for (words, number) in [(["0", "0"], 2), (["2", "0"], 10), (["1", "241"], 10)] {
+            assert_eq!(
+                took(&folder, &worklist, &words),
+                [vec![], refused(number, 0)]
+            );
+        }
+    }
+}
+
+/// Words that are no numbers, and no file.
+#[test]
+fn no_worklist() {
+    let folder = Folder::new();
+    let usage = b"usage: banktake WORKLIST INSTRUMENTS CALIBRATION.. > SHEET\n";
+    assert_eq!(printed("banktake", &[]), [&b""[..], usage]);
+    assert_eq!(took(&folder, WORKLIST, &[]), [&b""[..], usage]);
+    for bad in [
+        "", " ", "x", "2x", "x2", " 2", "2 ", "+2", "-2", "02", "00", "1000000", "0000002", "2,2",
+        "2.0", "0x2",
+    ] {
+        for words in [[bad, "0", "0"], ["2", bad, "0"], ["2", "0", bad]] {
+            assert_eq!(
+                took(&folder, WORKLIST, &words),
+                [&b""[..], usage],
+                "{words:?}"
+            );
+        }
+    }
+    // A word is a number of the form, but out of range.
+    for (words, refusal) in [
+        (["0", "0", "0"], 2),
+        (["999999", "0", "0"], 2),
+        (["2", "0", "241"], 10),
+        (["2", "999999", "0"], 10),
+        (["3", "0", "0"], 10),
+    ] {
+        assert_eq!(
+            took(&folder, WORKLIST, &words),
+            [vec![], refused(refusal, 0)]
+        );
+    }
+    for file in [folder.0.join("none"), folder.0.clone()] {
+        let words = ["2", "0", "0"].map(Path::new);
+        let [out, error] = printed("banktake", &[&[file.as_path()], &words[..]].concat());
+        assert!(out.is_empty() && error.ends_with(b"\n") && error != usage);
     }
 }

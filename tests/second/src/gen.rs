@@ -282,6 +282,32 @@ pub fn with_places(file: &[u8]) -> Vec<u8> {
     filled
 }
 
+/// Put another number, or no place, in some line of a draft that has one. Now and
+/// then the result is still sound.
+pub fn misstate(rng: &mut Rng, draft: &mut Draft) {
+    let m = draft.instruments;
+    let k = rng.below(draft.lines.len() as u64) as usize;
+    let line = &mut draft.lines[k];
+    let near = *rng.pick(&[0, 1, m - 1, m, m + 1, m + 2]);
+    let far = *rng.pick(&EDGES);
+    let number = *rng.pick(&[near, near, far]);
+    match rng.below(8) {
+        0 => line.length = *rng.pick(&EDGES),
+        1 => line.length = *rng.pick(&[0, 1, 1439, 1440, 1441]),
+        2 => line.place = *rng.pick(&[Some(number), Some(number), None]),
+        3 => line.mark = *rng.pick(&[0, 1, 2, 9, 10, number]),
+        4 => {
+            line.mark = 1;
+            line.place = *rng.pick(&[Some(0), None]);
+        }
+        5 => line.list.push(number),
+        6 => line
+            .list
+            .resize(m as usize + rng.within(0, 2) as usize, number),
+        _ => *line.list.last_mut().expect("a list") = number,
+    }
+}
+
 fn edge_or(rng: &mut Rng, usual: u64) -> u64 {
     match rng.below(12) {
         0 => u64::MAX - rng.below(3),

@@ -3,10 +3,12 @@
 //! sections it follows, and which request of document 02. Loads are kept; all
 //! else is found by looking.
 //!
-//! [`draft`], [`gen`] and [`rng`] are no part of the planner: they make sheets,
-//! files and calls for tests.
+//! [`corners`], [`draft`], [`exports`], [`gen`] and [`rng`] are no part of the
+//! planner: they make sheets, files and calls for tests.
 
+pub mod corners;
 pub mod draft;
+pub mod exports;
 pub mod file;
 pub mod gen;
 pub mod listing;
@@ -18,6 +20,7 @@ pub mod run;
 pub mod settle;
 pub mod sheet;
 pub mod trial;
+pub mod worklist;
 pub mod write;
 
 pub use draft::{Draft, Line};
@@ -30,4 +33,5 @@ pub use run::{apply, run, Answer, Call};
 pub use settle::{review, settle, Review, Settled};
 pub use sheet::{Batch, Refusal, Sheet};
 pub use trial::{trial, Trial, Verdict};
+pub use worklist::take;
 pub use write::write;

@@ -29,6 +29,8 @@ pub enum Refusal {
     Calibration = 10,
     /// The batch has started.
     Started = 11,
+    /// The worklist is not of its form.
+    Worklist = 12,
 }
 
 impl Refusal {

@@ -8,7 +8,8 @@ use borrow.Author.Needs.{needs}
 use lib.ListN.{drop, set}
 use Rattle.rules.specs.Read.{numberAt}
 use Rattle.fields.proofs.Reading.{NumberRead, field-number, field-none}
-use Rattle.journal.proofs.Numbers.{row-fills, row-full, NumbersSofar, none-yet, then-missing, one-more, all-read}
+use Rattle.sheet.proofs.Firsts.{firsts-fill, firsts-full}
+use Rattle.journal.proofs.Numbers.{NumbersSofar, none-yet, then-missing, one-more, all-read}
 use Rattle.journal.proofs.entry.numbers_at.Statement.{statement}
 use Rattle.journal.proofs.entry.numbers_at.Tie as tie
 
@@ -77,8 +78,8 @@ loop-again c =
     let r = x-read (c .before) in
     one-more (text t) _ _ (t .loop .list) k (t .loop .next) f x _ (c .before .before .before .before .before .loop-test .taken) (r .number) (r .room)
     (⊎-elim
-    (λ w. w .1 ∙ ap (λ (l : List ℕ). set l k x) (f .same) ∙ row-fills (f .numbers) k x (f .count) (w .0 .taken))
-    (λ w. w .1 ∙ f .same ∙ row-full (f .numbers) k x (f .count) (w .0 .left))
+    (λ w. w .1 ∙ ap (λ (l : List ℕ). set l k x) (f .same) ∙ firsts-fill (f .numbers) k x (f .count) (w .0 .taken))
+    (λ w. w .1 ∙ f .same ∙ firsts-full (f .numbers) x (omega (arith, f .count, w .0 .left)))
     (c .if1 .came))
 
 kept-of-requires : tie.Need-kept-of-requires Inv-loop μ-loop

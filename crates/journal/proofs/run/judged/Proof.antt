@@ -1,6 +1,7 @@
 -- A sheet that is refused, a journal that is, and neither.
 use mathlib.Core.Path.{sym, _∙_}
 use Rattle.sheet.proofs.PartsRead.{some-refusal}
+use Rattle.rules.specs.Read.{read}
 use Rattle.sheet.proofs.Accepted.{Accepted, is-accepted, Refused, is-refused}
 use Rattle.journal.specs.Running.{bookBefore, judgedOf}
 use Rattle.journal.proofs.Hosting.{spells, left-unread, left-faulty, left-good}
@@ -9,10 +10,10 @@ use Rattle.journal.proofs.run.judged.Statement.{statement}
 use Rattle.journal.proofs.run.judged.Tie as tie
 
 -- what was refused, and what was read
-unread : (c : tie.At-match-keys2) → Refused (c .before .before .before .before .args .sheet .now) (c .before .read .result)
+unread : (c : tie.At-match-keys2) → Refused (read (c .before .before .before .before .args .sheet .now)) (c .before .read .result)
 unread c = is-refused _ _ (c .before .read .ensures .is) (some-refusal _ (c .match .keys2))
 
-taken : (c : tie.After-enum-told) → Accepted (c .before .before .before .before .before .args .sheet .now) (c .before .before .read .result)
+taken : (c : tie.After-enum-told) → Accepted (read (c .before .before .before .before .before .args .sheet .now)) (c .before .before .read .result)
 taken c = is-accepted _ _ (c .before .before .read .ensures .is) (c .enum-told .given .1)
 
 read-requires : tie.Need-read-requires

@@ -1,6 +1,7 @@
 -- The sheet that reading hands on is sound, and a refusal is the rules'.
 use mathlib.Core.Path.{_∙_}
 use Rattle.sheet.proofs.PartsRead.{some-refusal}
+use Rattle.rules.specs.Read.{read}
 use Rattle.sheet.proofs.Accepted.{Accepted, is-accepted, Refused, is-refused}
 use Rattle.listing.proofs.Hosting.{host-refused, host-listed}
 use borrow.Author.Needs.{needs}
@@ -8,10 +9,10 @@ use Rattle.listing.proofs.host.plan_into.Statement.{statement}
 use Rattle.listing.proofs.host.plan_into.Tie as tie
 
 -- what was refused, and what was read
-refused : (c : tie.At-match-keys2) → Refused (c .before .before .before .before .args .sheet .now) (c .before .read .result)
+refused : (c : tie.At-match-keys2) → Refused (read (c .before .before .before .before .args .sheet .now)) (c .before .read .result)
 refused c = is-refused _ _ (c .before .read .ensures .is) (some-refusal _ (c .match .keys2))
 
-taken : (c : tie.After-enum-told) → Accepted (c .before .before .before .before .before .args .sheet .now) (c .before .before .read .result)
+taken : (c : tie.After-enum-told) → Accepted (read (c .before .before .before .before .before .args .sheet .now)) (c .before .before .read .result)
 taken c = is-accepted _ _ (c .before .before .read .ensures .is) (c .enum-told .given .1)
 
 read-requires : tie.Need-read-requires

@@ -13,7 +13,7 @@ use Rattle.rules.specs.Refusal as R
 use Rattle.rules.specs.Sheet.{maxBatches, goodInstruments}
 use Rattle.rules.specs.Read.{Part, Head, gives, refuses, andThen, orRefuse, numberAt, endOfLine, headLine, read}
 use Rattle.sheet.specs.declared.Reading.{Reading}
-use Rattle.sheet.specs.Answers.{coded, readOf, ReadAnswered}
+use Rattle.sheet.specs.Answers.{coded, ReadAnswered}
 use Rattle.sheet.specs.Lines.{unread}
 use Rattle.fields.proofs.Reading.{NumberRead, field-number, field-none, end-room, end-missing, end-there}
 use Rattle.sheet.proofs.Scan.{failed, passed, in-range}
@@ -25,8 +25,8 @@ abbrev text : tie.Start → List ℕ
 text b = b .args .s .now
 
 -- a refusal of line 1
-refused : (b : tie.Start) (e : R.Refusal) {r : Reading} → r ≡ unread (coded e) 1 → headLine (text b) ≡ refuses e → ReadAnswered (text b) r
-unfolding readOf read
+refused : (b : tie.Start) (e : R.Refusal) {r : Reading} → r ≡ unread (coded e) 1 → headLine (text b) ≡ refuses e → ReadAnswered (read (text b)) r
+unfolding read
 refused b e q h = read-answered (q ∙ rw h)
 
 -- the end of line 1
@@ -159,7 +159,7 @@ lines-after-requires c κs =
     (end-room (text (start3 e)) 12 (passed (e .ends-at .ensures) (c .if3 .left)), in-range _ 24 (good (field2 k .before)) .1, e .before .if2 .left)
 
 returns-6 : tie.Need-returns-6
-unfolding readOf read
+unfolding read
 returns-6 c =
     let e = c .before .before in
     read-answered (rw (ending e, end-there (text (start3 e)) 12 _ (passed (e .ends-at .ensures) (c .before .if3 .left))) (c .lines-after .ensures))

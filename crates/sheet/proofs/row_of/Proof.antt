@@ -4,8 +4,8 @@ use native.Mathlib.Omega.{arith}
 use Prim.Native.Nat.{_-_}
 use lib.ListN.{length}
 use Rattle.sheet.proofs.Scan.{Rowed, rowed-start, rowed-step, rowed-end}
-use Rattle.sheet.proofs.edit.row_of.Statement.{statement}
-use Rattle.sheet.proofs.edit.row_of.Tie as tie
+use Rattle.sheet.proofs.row_of.Statement.{statement}
+use Rattle.sheet.proofs.row_of.Tie as tie
 
 abbrev Inv-loop : tie.InvT-loop
 Inv-loop list row₀ i₀ row i = Rowed list row i

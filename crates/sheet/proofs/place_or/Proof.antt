@@ -1,8 +1,8 @@
 -- By whether the batch has started, and whether p is 0.
 use borrow.Author.Tests.{eq-eqb, ne-eqb}
 use Rattle.rules.specs.Fold.{_and_}
-use Rattle.sheet.proofs.read.place_or.Statement.{statement}
-use Rattle.sheet.proofs.read.place_or.Tie as tie
+use Rattle.sheet.proofs.place_or.Statement.{statement}
+use Rattle.sheet.proofs.place_or.Tie as tie
 
 returns : tie.Need-returns
 unfolding _and_
