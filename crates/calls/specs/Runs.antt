@@ -2,7 +2,8 @@
 -- claimed of a whole list.
 use Prim.Native.Nat.{ℕ}
 use mathlib.Core.Path.{_≡_}
-use mathlib.Core.List.{List, [], _∷_, map}
+use mathlib.Core.Bool.{Bool}
+use mathlib.Core.List.{List, [], _∷_, _++_, map}
 use lib.ListN.{length}
 use Rattle.rules.specs.Sheet.{Book}
 use Rattle.rules.specs.Edit.{Edit}
@@ -10,6 +11,7 @@ use Rattle.rules.specs.Read.{Reading, accepted, read}
 use Rattle.rules.specs.Worklist.{taken}
 use Rattle.rules.specs.Run.{Call, answer, next, bookAfter, answers, answerNumbers}
 use Rattle.rules.specs.Run as R
+use Rattle.rules.specs.Interleave.{byTurns, answersByTurns}
 use Rattle.theory.proofs.Claims.{Claims}
 use Rattle.sheet.specs.declared.Sheet.{Sheet}
 use Rattle.sheet.specs.declared.Edited.{Edited}
@@ -97,3 +99,20 @@ pub record Whole (source : Source) (s : Sheet) (cs : List Call) (rs : List Reply
   pub holds : Holds book s cs rs u
   pub sheet : u ≡ sheetOf (bookAfter book cs)
   pub replies : chainNumbers book cs rs ≡ map answerNumbers (answers book cs)
+
+-- ---- edits in either order (document 02, C-19)
+
+-- Two edits on one sheet: r and q answer them in this order, and from the same sheet again q₂ and r₂ in the other. Each is refused alike or
+-- made both times, and the sheet after both is the same.
+pub record EitherOrder (r q q₂ r₂ : Edited) : Type 0 where
+  pub first : r₂ .refusal ≡ r .refusal
+  pub second : q₂ .refusal ≡ q .refusal
+  pub sheet : r₂ .sheet ≡ q .sheet
+
+-- A run in which the lists xs and ys stand by turns t, after cs and before zs. The sheet at the end is that of the one list and then the
+-- other, and so that of any turns; each call of either list has the reply that it has where the other is not there.
+pub record Interleaved (source : Source) (t : List Bool) (cs xs ys zs : List Call) (rs : List Reply) (u : Sheet) : Type 0 where
+  pub book : Book
+  pub said : says source ≡ accepted book
+  pub sheet : u ≡ sheetOf (bookAfter book (cs ++ (xs ++ ys ++ zs)))
+  pub replies : chainNumbers book (byTurns t cs xs ys zs) rs ≡ map answerNumbers (answersByTurns book t cs xs ys zs)

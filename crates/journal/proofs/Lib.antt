@@ -9,4 +9,5 @@ pub mod Small
 pub mod Fitting
 pub mod Going
 pub mod Hosting
+pub mod Interleaved
 pub mod Printing

@@ -1,6 +1,6 @@
 -- Document 01, "Cases": P1 to P10 in one table, with one theorem over it. The rows from 11 on are more of document 01's cases
 -- and ours: each tells a wrong rule from the right one. Rows 20 to 26 are C-11 to C-17 of
--- document 02.
+-- document 02, and row 27 is C-19.
 use Prim.Native.Nat.{ℕ}
 use Prim.Native.String.{String}
 use mathlib.Core.Path.{_≡_, refl}
@@ -13,7 +13,7 @@ use Rattle.rules.specs.Sheet.{waiting, isBatch, goodInstruments, goodMin
 use Rattle.rules.specs.Field.{Field, value, blank, fault, digits, loneZero, blanks, field}
 use Rattle.rules.specs.Read.{Reading, accepted, refusedAt, numberAt, placeAt, endOfLine, headLine, calibrationsAt, calibrationLine, markAt, instrumentsAt, goodPlace, batchLine, batchLines, linesAfter, read}
 use Rattle.rules.specs.Render.{columns, fields, Given, numbered, leftBlank, Described, Description, renderBatches, render, batchWithinLimits, withinLimits}
-use Rattle.rules.specs.Rewrite.{written, openInBatches, openColumns, alike}
+use Rattle.rules.specs.Rewrite.{written, unmarked, openInBatches, openColumns, alike}
 use Rattle.rules.specs.Edit.{add, withdraw, requalify, move, start, kept, edit}
 use Rattle.rules.specs.Instance.{Assignment, calibrationsTo, busy, instance}
 use Rattle.rules.specs.Load.{load, makespan, longest, total, permitted, elsewhere, improvesAt, improves, review}
@@ -27,6 +27,7 @@ use Rattle.rules.specs.Round.{multiples, equalLengths, closeTo}
 use Rattle.rules.specs.Plan as P
 use Rattle.rules.specs.Moves.{Move, records, moveNumbers}
 use Rattle.rules.specs.Run.{Call, editing, reviewing, trying, balancing, settling, Answer, refused, done, reviewed, tried, balanced, settled, balanceBook, answer, next, bookAfter, answers}
+use Rattle.rules.specs.Interleave.{independent, allIndependent, interleave}
 use Rattle.rules.specs.Lent.{Hosted, intoBuffer}
 use Rattle.rules.specs.Listing.{batchListing, listing, program, host}
 use Rattle.rules.specs.Journal.{numbersAt, listAt, addAt, withdrawAt, requalifyAt, moveAt, startAt, trialAt, balanceAt, settleAt, callAt, callLine, linesBy, journal, answerLines, runHost, writeHost}
@@ -251,6 +252,12 @@ data Ask : Type 0 where
   confining : List ℕ → List ℕ → Ask
   -- whether the sheet of a file has a batch or a calibration above 0
   stirring : List ℕ → Ask
+  -- two calls on the sheet of a file, in this order and in the other
+  swapping : List ℕ → Call → Call → Ask
+  -- whether each call of a list is independent of each of another
+  separating : List Call → List Call → Ask
+  -- two lists by turns
+  mixing : List Bool → List ℕ → List ℕ → Ask
 
 -- the lengths are multiples of g, and all equal; the other plan is permitted; balance's finish and the other's; the bound for g holds
 record Comparison : Type 0 where
@@ -273,6 +280,9 @@ data Said : Type 0 where
   compared : Comparison → Said
   -- the list's marks, and whether it lies in the group
   lies : List ℕ → Bool → Said
+  -- whether the two are independent; what both are answered, the first before the second and after it; whether the sheet left is the same
+  swapped : Bool → List Answer → List Answer → Bool → Said
+  mixed : List ℕ → Said
   noSheet : Said
 
 abbrev callsOn : Reading → List Call → Said
@@ -296,6 +306,13 @@ abbrev busyOn : Reading → Said
 busyOn (accepted k) = matched (busy k)
 busyOn (refusedAt e j) = noSheet
 
+abbrev swappedOn : Reading → Call → Call → Said
+swappedOn (accepted k) c d =
+    let s = written (next (next k c) d) in
+    swapped (independent c d) (answer k c ∷ answer (next k c) d ∷ []) (answer (next k d) c ∷ answer k d ∷ [])
+    (alike (unmarked s) s (written (next (next k d) c)))
+swappedOn (refusedAt e j) c d = noSheet
+
 abbrev writtenOf : Reading → Said
 writtenOf (accepted k) = fileSaid (written k)
 writtenOf (refusedAt e j) = noSheet
@@ -315,6 +332,9 @@ say (calling s cs) = callsOn (read s) cs
 say (comparing s g y) = comparedOn (read s) g y
 say (confining l g) = lies (marksOf l) (within l g)
 say (stirring s) = busyOn (read s)
+say (swapping s c d) = swappedOn (read s) c d
+say (separating xs ys) = matched (allIndependent xs ys)
+say (mixing t xs ys) = mixed (interleave t xs ys)
 
 -- a row: the case's number in document 01, what is asked, and what is to be said
 record Row : Type 0 where
@@ -739,6 +759,52 @@ table =
           ∷ "    10     2     0     2     1     2"
           ∷ []);
     }))
+    -- edits of different batches, in either order: made, refused for every reason, and without a batch
+    ∷ row 27 (swapping loaded (editing (move 3 2)) (editing (start 2))) (swapped true (done ∷ done ∷ []) (done ∷ done ∷ []) true)
+    ∷ row 27 (swapping loaded (editing (requalify 3 (2 ∷ []))) (editing (requalify 2 [])))
+    (swapped true (done ∷ refused badList ∷ []) (done ∷ refused badList ∷ []) true)
+    ∷ row 27 (swapping loaded (editing (move 1 2)) (editing (move 2 2)))
+    (swapped true (refused hasStarted ∷ refused badPlace ∷ []) (refused hasStarted ∷ refused badPlace ∷ []) true)
+    ∷ row 27 (swapping loaded (editing (start 0)) (editing (move 1 1)))
+    (swapped true (refused noBatch ∷ refused hasStarted ∷ []) (refused noBatch ∷ refused hasStarted ∷ []) true)
+    ∷ row 27 (swapping loaded (editing (start 4)) (editing (start 3))) (swapped true (refused noBatch ∷ done ∷ []) (refused noBatch ∷ done ∷ []) true)
+    -- of one batch the order counts, in the sheet or in an answer
+    ∷ row 27 (swapping loaded (editing (move 3 2)) (editing (start 3)))
+    (swapped false (done ∷ done ∷ []) (refused hasStarted ∷ done ∷ []) false)
+    ∷ row 27 (swapping loaded (editing (move 3 2)) (editing (move 3 1))) (swapped false (done ∷ done ∷ []) (done ∷ done ∷ []) false)
+    ∷ row 27 (swapping loaded (editing (requalify 3 (1 ∷ []))) (editing (move 3 2)))
+    (swapped false (done ∷ refused badPlace ∷ []) (done ∷ done ∷ []) true)
+    -- with an addition it counts, whatever the other edit is
+    ∷ row 27 (swapping loaded (editing (add 5 (1 ∷ []))) (editing (add 6 (1 ∷ [])))) (swapped false (done ∷ done ∷ []) (done ∷ done ∷ []) false)
+    ∷ row 27 (swapping loaded (editing (add 5 (1 ∷ []))) (editing (withdraw 4)))
+    (swapped false (done ∷ done ∷ []) (done ∷ refused noBatch ∷ []) false)
+    ∷ row 27 (swapping loaded (editing (add 5 (1 ∷ []))) (editing (requalify 4 (2 ∷ []))))
+    (swapped false (done ∷ done ∷ []) (done ∷ refused noBatch ∷ []) false)
+    ∷ row 27 (swapping loaded (editing (add 5 (1 ∷ 2 ∷ []))) (editing (move 4 2)))
+    (swapped false (done ∷ done ∷ []) (done ∷ refused noBatch ∷ []) false)
+    ∷ row 27 (swapping loaded (editing (add 5 (1 ∷ []))) (editing (start 4)))
+    (swapped false (done ∷ done ∷ []) (done ∷ refused noBatch ∷ []) false)
+    -- and with a withdrawal of another batch
+    ∷ row 27 (swapping loaded (editing (withdraw 2)) (editing (withdraw 3)))
+    (swapped false (done ∷ refused noBatch ∷ []) (done ∷ done ∷ []) false)
+    ∷ row 27 (swapping loaded (editing (withdraw 2)) (editing (requalify 3 (2 ∷ []))))
+    (swapped false (done ∷ refused noBatch ∷ []) (done ∷ done ∷ []) false)
+    ∷ row 27 (swapping loaded (editing (withdraw 2)) (editing (move 3 2)))
+    (swapped false (done ∷ refused noBatch ∷ []) (done ∷ done ∷ []) false)
+    ∷ row 27 (swapping loaded (editing (withdraw 2)) (editing (start 3)))
+    (swapped false (done ∷ refused noBatch ∷ []) (done ∷ done ∷ []) false)
+    -- other calls are not among those that the law is about
+    ∷ row 27 (swapping loaded reviewing (editing (move 3 2)))
+    (swapped false (reviewSaid (60 ∷ 0 ∷ []) 60 3 ∷ done ∷ []) (reviewSaid (50 ∷ 10 ∷ []) 50 0 ∷ done ∷ []) true)
+    -- lists: every pair counts, and nothing is asked of one beside an empty one
+    ∷ row 27 (separating (editing (move 1 1) ∷ editing (start 3) ∷ []) (editing (start 2) ∷ editing (requalify 4 []) ∷ [])) (matched true)
+    ∷ row 27 (separating (editing (move 1 1) ∷ editing (start 3) ∷ []) (editing (start 2) ∷ editing (requalify 3 []) ∷ [])) (matched false)
+    ∷ row 27 (separating (editing (move 1 1) ∷ editing (withdraw 3) ∷ []) (editing (start 2) ∷ [])) (matched false)
+    ∷ row 27 (separating (reviewing ∷ []) []) (matched true)
+    -- by turns, and what is left where one list is used up, or there is no turn more
+    ∷ row 27 (mixing (true ∷ false ∷ false ∷ true ∷ []) (1 ∷ 2 ∷ 3 ∷ []) (4 ∷ 5 ∷ 6 ∷ [])) (mixed (1 ∷ 4 ∷ 5 ∷ 2 ∷ 3 ∷ 6 ∷ []))
+    ∷ row 27 (mixing (false ∷ true ∷ true ∷ false ∷ []) (1 ∷ []) (4 ∷ 5 ∷ 6 ∷ [])) (mixed (4 ∷ 1 ∷ 5 ∷ 6 ∷ []))
+    ∷ row 27 (mixing (false ∷ false ∷ []) (1 ∷ 2 ∷ []) (4 ∷ [])) (mixed (4 ∷ 1 ∷ 2 ∷ []))
     ∷ []
 
 abbrev asked : List Row → List Said
@@ -749,5 +815,5 @@ said t = map (λ (r : Row). r .says) t
 
 -- the rules say what the table says
 cases : asked table ≡ said table
-unfolding table bytes lines _and_ _or_ mem every sumTo most maxTo orElse firstTo anyTo allTo lesser leastTo greater greatestTo thoseTo listTo isBatch goodInstruments goodMinutes goodCalibration goodCalibrations isInstrument distinct goodList goodBatch sound digits loneZero blanks field numberAt placeAt endOfLine headLine calibrationsAt calibrationLine markAt instrumentsAt goodPlace batchLine batchLines linesAfter read columns fields renderBatches render written openInBatches openColumns alike batchWithinLimits withinLimits kept edit calibrationsTo busy load makespan longest total permitted elsewhere improvesAt improves review mover target moved squares settleBy settle atLevel underloaded overloaded unplaced machineArc jobArc liftOver pushOr deed jobDeed machineDeed someUnderloaded actMachine actJob act stepsBy liftBound pushBound endedBy overflows reach reachBy closure group trial searchBy balance within confined share lowerBound marksOf multiples equalLengths closeTo P.balanced P.rested P.plan records moveNumbers answer next bookAfter answers intoBuffer batchListing listing program host numbersAt listAt addAt withdrawAt requalifyAt moveAt startAt trialAt balanceAt settleAt callAt callLine linesBy journal answerLines runHost writeHost filed
+unfolding table bytes lines _and_ _or_ mem every sumTo most maxTo orElse firstTo anyTo allTo lesser leastTo greater greatestTo thoseTo listTo isBatch goodInstruments goodMinutes goodCalibration goodCalibrations isInstrument distinct goodList goodBatch sound digits loneZero blanks field numberAt placeAt endOfLine headLine calibrationsAt calibrationLine markAt instrumentsAt goodPlace batchLine batchLines linesAfter read columns fields renderBatches render written openInBatches openColumns alike batchWithinLimits withinLimits kept edit calibrationsTo busy load makespan longest total permitted elsewhere improvesAt improves review mover target moved squares settleBy settle atLevel underloaded overloaded unplaced machineArc jobArc liftOver pushOr deed jobDeed machineDeed someUnderloaded actMachine actJob act stepsBy liftBound pushBound endedBy overflows reach reachBy closure group trial searchBy balance within confined share lowerBound marksOf multiples equalLengths closeTo P.balanced P.rested P.plan records moveNumbers answer next bookAfter answers independent allIndependent interleave intoBuffer batchListing listing program host numbersAt listAt addAt withdrawAt requalifyAt moveAt startAt trialAt balanceAt settleAt callAt callLine linesBy journal answerLines runHost writeHost filed
 cases = refl

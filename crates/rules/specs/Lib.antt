@@ -8,6 +8,7 @@
 --   The listing        Lent, Listing
 --   Cases              Cases, and Text, in which its files are written
 -- Csv, Grammar and Worklist are document 02's C-18: files of RFC 4180 on their own, and worklists; WorklistCases has their tables.
+-- Interleave is C-19: edits of different batches, and lists of them by turns.
 -- Journal, calls and answers as texts, is not in document 01. Round, Rewrite, Moves and Marks are document 02's C-12 to C-15; Filed has
 -- C-14's two calls for hosts that keep their sheet as a file.
 -- Fold has the lists by number and the folds over 1 to k that all of them use.
@@ -31,6 +32,7 @@ pub mod Round
 pub mod Plan
 pub mod Moves
 pub mod Run
+pub mod Interleave
 pub mod Lent
 pub mod Listing
 pub mod Journal

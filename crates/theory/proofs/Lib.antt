@@ -42,6 +42,8 @@ pub mod Sound
 pub mod Claims
 pub mod Jobs
 pub mod Started
+pub mod Commute
+pub mod Interleave
 pub mod Limits
 pub mod Rewrite
 pub mod Worklist

@@ -24,6 +24,7 @@ use Rattle.theory.proofs.Valid.{Valid, Permitted}
 use Rattle.theory.proofs.Sound.{read-sound, edit-sound}
 use Rattle.theory.proofs.Jobs.{sound-valid, sound-permitted, placed-sound, placed-places, placed-instance, placed-again, placed-size, places-past, batches-first, busy-some, some-busy, improves-batch, improves-waits, batches-fit, calibrations-stay, permitted-leaves, leaves-permitted}
 use Rattle.theory.proofs.Started.{started-stays}
+use Rattle.theory.proofs.Interleave.{interleaves}
 use Rattle.theory.proofs.Claims.{homes, renumbered, numberAfter, Lends, Bounds, Plans, Claims}
 use Rattle.theory.proofs.Records.{records-lead}
 use Rattle.theory.proofs.Rewrite.{read-written, most-written}
@@ -240,6 +241,7 @@ sound-claims k e =
         settled = λ c b h. call-stays k e (settling c) b h;
         stays = λ cs b h. never-moved k cs b e h;
       };
+      interleaves = interleaves k;
       trials = record {
         lifts = λ a. trial-lifts I x (permitted-partial w) (atLevel I a);
         pushes = λ a. trial-pushes I x (permitted-partial w) (atLevel I a);

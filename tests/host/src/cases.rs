@@ -527,7 +527,8 @@ fn halving(sheet: &Sheet, calls: &mut Vec<Call>) {
     }
 }
 
-fn edit(rng: &mut Rng, sheet: &Sheet) -> Call {
+/// An edit of any kind, its arguments good more often than not.
+pub fn edit(rng: &mut Rng, sheet: &Sheet) -> Call {
     let full = sheet.batches().len() == Sheet::BATCHES;
     match rng.below(9) {
         0 | 1 => Call::Add {
@@ -556,6 +557,21 @@ fn edit(rng: &mut Rng, sheet: &Sheet) -> Call {
                 instrument: instrument(rng, sheet, number),
             }
         }
+    }
+}
+
+/// To requalify, move or start the batch of this number, there or not.
+pub fn change(rng: &mut Rng, sheet: &Sheet, number: u64) -> Call {
+    match rng.below(5) {
+        0 | 1 => Call::Requalify {
+            number,
+            list: list(rng, sheet),
+        },
+        2 | 3 => Call::Move {
+            number,
+            instrument: instrument(rng, sheet, number),
+        },
+        _ => Call::Start { number },
     }
 }
 

@@ -126,6 +126,22 @@ fn random_runs() {
     assert!(lines >= 7 * runs as usize && changed >= runs as usize / 2);
 }
 
+/// The examples of two desks' journals, in either order: the same sheet, and the
+/// same answers to each desk.
+#[test]
+fn two_desks() {
+    let folder = Folder::new();
+    let examples = Path::new(env!("CARGO_MANIFEST_DIR")).join("../../examples");
+    let [first, second] = ["desk1.txt", "desk2.txt"]
+        .map(|name| fs::read(examples.join(name)).expect("an example of a journal"));
+    let [one, other] = [[&first[..], &second].concat(), [second, first].concat()]
+        .map(|journal| compare(&folder, SHEET.as_bytes(), &journal));
+    assert_eq!(one[1], other[1]);
+    assert_ne!(one[1][0], SHEET.as_bytes());
+    let (own, others) = one[0][0].split_at(3 * 7);
+    assert_eq!(other[0][0], [others, own].concat());
+}
+
 /// Sheets and journals that are refused, one or both, and some that are not.
 #[test]
 fn refusals() {
