@@ -1,16 +1,15 @@
 -- Edits in either order (document 02, C-19), of sheets: by what the functions answer, and in runs.
 use mathlib.Core.Path.{_≡_, refl, sym, ap, _∙_}
-use mathlib.Core.Bool.{Bool, true}
-use mathlib.Core.List.{List, _++_, map}
+use mathlib.Core.Bool.{Bool, true, false}
+use mathlib.Core.List.{List, [], _∷_, _++_, map}
 use Rattle.rules.specs.Sheet.{Book}
 use Rattle.rules.specs.Edit.{Edit}
 use Rattle.rules.specs.Edit as E
 use Rattle.rules.specs.Run.{Call, Answer, editing, editAnswer, answer, next, bookAfter, answerNumbers}
 use Rattle.rules.specs.Run as R
-use Rattle.rules.specs.Interleave.{independent, allIndependent, byTurns}
-use Rattle.theory.proofs.Claims.{Commutes}
+use Rattle.rules.specs.Interleave.{independent, allIndependent, interleave, byTurns}
 use Rattle.theory.proofs.Commute.{commute}
-use Rattle.theory.proofs.Interleave.{interleaves}
+use Rattle.theory.proofs.Interleave.{interleaves, ones-independent}
 use Rattle.theory.proofs.Runs.{next-sound}
 use Rattle.sheet.specs.declared.Sheet.{Sheet}
 use Rattle.sheet.specs.declared.Edited.{Edited}
@@ -21,7 +20,7 @@ use Rattle.sheet.specs.Represent.{Sound, sheetOf, bookOf}
 use Rattle.sheet.specs.Answers.{coded, editedAs, editOf, EditAnswered, ReadAnswered}
 use Rattle.sheet.proofs.Answered.{edit-next}
 use Rattle.sheet.proofs.Represent.{book-sheet, sheet-sound}
-use Rattle.calls.specs.Runs.{Reply, Chain, Source, says, Whole, EitherOrder, Interleaved}
+use Rattle.calls.specs.Runs.{Reply, Chain, Source, says, EitherOrder, Interleaved}
 use Rattle.calls.proofs.Runs.{run-holds}
 
 -- ---- two edits of a sheet
@@ -97,3 +96,10 @@ module _ (o : Source) (r : Reading) (e : ReadAnswered (says o) r) (q : r .refusa
       let b = run-interleaved v g in
       let same : a .book ≡ b .book = cc in
       a .sheet ∙ ap (λ (k : Book). sheetOf (bookAfter k (cs ++ (xs ++ ys ++ zs)))) same ∙ sym (b .sheet)
+
+-- two neighbours in a list of calls
+pub neighbours-sheet : (o : Source) (r : Reading) → ReadAnswered (says o) r → r .refusal ≡ Nothing → (cs zs : List Call) (c d : Call)
+    → independent c d ≡ true → {rs ps : List Reply} {u w : Sheet} → Chain (r .sheet) (cs ++ (c ∷ d ∷ zs)) rs u
+    → Chain (r .sheet) (cs ++ (d ∷ c ∷ zs)) ps w → u ≡ w
+unfolding interleave
+neighbours-sheet o r e q cs zs c d h = any-turns o r e q cs (c ∷ []) (d ∷ []) zs (ones-independent c d h) (true ∷ []) (false ∷ [])

@@ -1,6 +1,5 @@
 -- Two lists of edits on different batches, interleaved (document 02, C-19): each edit is answered as if the other list were not there, and
 -- the book at the end is that of the one list and then the other.
-use Prim.Native.Nat.{ℕ}
 use mathlib.Core.Path.{_≡_, refl, sym, ap, ap₂, _∙_}
 use mathlib.Core.Bool.{Bool, true, false}
 use mathlib.Core.List.{List, [], _∷_, _++_, append-nil}
@@ -10,7 +9,7 @@ use Rattle.rules.specs.Sheet.{Book}
 use Rattle.rules.specs.Run.{Call, Answer, answer, next, bookAfter, answers}
 use Rattle.rules.specs.Interleave.{Subject, one, none, subject, different, independent, allIndependent, interleave}
 use Rattle.theory.proofs.Logic.{conflict, not-mk, and-left, and-right, and-mk}
-use Rattle.theory.proofs.Claims.{Commutes, Interleaves}
+use Rattle.theory.proofs.Claims.{Interleaves}
 use Rattle.theory.proofs.Commute.{commute}
 
 -- ---- every interleaving is one by turns, and each of these is one
@@ -160,3 +159,18 @@ interleaves k = record {
       ∙ sym (book-append j (xs ++ ys) zs)
       ∙ sym (book-append k cs (xs ++ ys ++ zs));
 }
+
+-- two neighbours in a list of calls are lists of one call each
+pub ones-independent : (c d : Call) → independent c d ≡ true → allIndependent (c ∷ []) (d ∷ []) ≡ true
+unfolding allIndependent every
+ones-independent c d h = and-mk _ _ (and-mk _ _ h refl) refl
+
+module _ (k : Book) (cs zs : List Call) (c d : Call) (h : independent c d ≡ true) where
+  pub neighbours-book : bookAfter k (cs ++ (d ∷ c ∷ zs)) ≡ bookAfter k (cs ++ (c ∷ d ∷ zs))
+  unfolding interleave
+  neighbours-book = interleaves k .book (false ∷ []) cs (c ∷ []) (d ∷ []) zs (ones-independent c d h)
+
+  pub neighbours-answers : let j = bookAfter k cs in
+      answers k (cs ++ (d ∷ c ∷ zs)) ≡ answers k cs ++ (answer j d ∷ answer j c ∷ answers (next (next j c) d) zs)
+  unfolding interleave answers bookAfter
+  neighbours-answers = interleaves k .replies (false ∷ []) cs (c ∷ []) (d ∷ []) zs (ones-independent c d h)
