@@ -178,8 +178,9 @@ bankplan_answer bankplan_plan(const uint8_t *sheet, size_t sheet_length, uint8_t
  * made. On 9, call again with a larger buffer: the answers are the same. Within one call: add 7, 3, 4; withdraw and start 6, 11; requalify
  * 6, 11, 4; move 6, 11, 5.
  *
- * Lines of kinds 3, 4 and 9 that name different batches may change places: each has the same answer, a refusal too, and the sheet left is the
- * same. So two journals of such lines, with no batch in both, may be joined in any way that keeps the order within each.
+ * Two lines of kinds 3, 4 or 9 that stand next to each other and name different batches may change places: each has the same answer, a
+ * refusal too, and the sheet left is the same. So two journals of such lines, with no batch in both, may be joined in any way that keeps the
+ * order within each.
  */
 bankplan_answer bankplan_run(const uint8_t *sheet, size_t sheet_length, const uint8_t *journal, size_t journal_length,
                              uint8_t *answers, size_t answers_length);

@@ -1,15 +1,15 @@
 -- Edits in either order (document 02, C-19), of sheets: by what the functions answer, and in runs.
 use mathlib.Core.Path.{_≡_, refl, sym, ap, _∙_}
-use mathlib.Core.Bool.{Bool, true, false}
-use mathlib.Core.List.{List, [], _∷_, _++_, map}
+use mathlib.Core.Bool.{true}
+use mathlib.Core.List.{List, _∷_, _++_, map}
 use Rattle.rules.specs.Sheet.{Book}
 use Rattle.rules.specs.Edit.{Edit}
 use Rattle.rules.specs.Edit as E
 use Rattle.rules.specs.Run.{Call, Answer, editing, editAnswer, answer, next, bookAfter, answerNumbers}
 use Rattle.rules.specs.Run as R
-use Rattle.rules.specs.Interleave.{independent, allIndependent, interleave, byTurns}
+use Rattle.rules.specs.Interleave.{independent, allIndependent, Interleaving}
 use Rattle.theory.proofs.Commute.{commute}
-use Rattle.theory.proofs.Interleave.{interleaves, ones-independent}
+use Rattle.theory.proofs.Interleave.{interleaves, ones-independent, in-order, other-order}
 use Rattle.theory.proofs.Runs.{next-sound}
 use Rattle.sheet.specs.declared.Sheet.{Sheet}
 use Rattle.sheet.specs.declared.Edited.{Edited}
@@ -18,10 +18,9 @@ use Rattle.sheet.specs.declared.Refusal.{Refusal}
 use Rattle.sheet.specs.declared.Refusal.the-variants.{Nothing}
 use Rattle.sheet.specs.Represent.{Sound, sheetOf, bookOf}
 use Rattle.sheet.specs.Answers.{coded, editedAs, editOf, EditAnswered, ReadAnswered}
-use Rattle.sheet.proofs.Answered.{edit-next}
-use Rattle.sheet.proofs.Represent.{book-sheet, sheet-sound}
-use Rattle.calls.specs.Runs.{Reply, Chain, Source, says, EitherOrder, Interleaved}
-use Rattle.calls.proofs.Runs.{run-holds}
+use Rattle.calls.specs.Runs.{Reply, Chain, Source, says, HoldsBook, EitherOrder, Interleaved, Neighbours}
+use Rattle.calls.specs.Runs as S
+use Rattle.calls.proofs.Runs.{stands, link-next, run-holds}
 
 -- ---- two edits of a sheet
 
@@ -38,68 +37,66 @@ as-refused : (s : Sheet) (o : E.Edited) → editedAs s o .refusal ≡ refusalOf 
 as-refused s (E.refused e) = refl
 as-refused s (E.edited k) = refl
 
-module _ {s : Sheet} {e : Edit} {r : Edited} (v : Sound s) (h : EditAnswered s e r) where
-  edit-refused : r .refusal ≡ refusalOf (answer (bookOf s) (editing e))
+module _ {s : Sheet} {e : Edit} {a : Edited} (v : Sound s) (h : EditAnswered s e a) where
+  edit-refused : a .refusal ≡ refusalOf (answer (bookOf s) (editing e))
   unfolding answer editOf
   edit-refused = rw (h .is) (as-refused s (E.edit (bookOf s) e))
 
-  edit-left : r .sheet ≡ sheetOf (next (bookOf s) (editing e))
-  edit-left = rw (h .is) (edit-next (bookOf s) s e refl (sym (v .arrays)))
-
-  edit-sound : Sound (r .sheet)
-  edit-sound = rw edit-left (sheet-sound _ (next-sound (bookOf s) (editing e) (v .book)))
-
-  edit-book : bookOf (r .sheet) ≡ next (bookOf s) (editing e)
-  edit-book = ap bookOf edit-left ∙ book-sheet _ (next-sound (bookOf s) (editing e) (v .book))
+  -- the sheet that it leaves
+  edit-left : HoldsBook (next (bookOf s) (editing e)) (a .sheet)
+  edit-left =
+      stands (next (bookOf s) (editing e)) (a .sheet) (next-sound (bookOf s) (editing e) (v .book))
+      (link-next (bookOf s) (sym (v .arrays)) refl (S.editing s e a h))
 
 -- one after the other
-module _ {s : Sheet} {e f : Edit} {r q : Edited} (v : Sound s) (a : EditAnswered s e r) (b : EditAnswered (r .sheet) f q) where
-  second-refused : q .refusal ≡ refusalOf (answer (next (bookOf s) (editing e)) (editing f))
-  second-refused = rw (← edit-book v a) (edit-refused (edit-sound v a) b)
+module _ {s : Sheet} {e f : Edit} {a b : Edited} (v : Sound s) (p : EditAnswered s e a) (q : EditAnswered (a .sheet) f b) where
+  second-refused : b .refusal ≡ refusalOf (answer (next (bookOf s) (editing e)) (editing f))
+  second-refused = rw (← edit-left v p .book) (edit-refused (edit-left v p .sound) q)
 
-  second-left : q .sheet ≡ sheetOf (next (next (bookOf s) (editing e)) (editing f))
-  second-left = rw (← edit-book v a) (edit-left (edit-sound v a) b)
+  second-left : b .sheet ≡ sheetOf (next (next (bookOf s) (editing e)) (editing f))
+  second-left = rw (← edit-left v p .book) (edit-left (edit-left v p .sound) q .sheet)
 
 -- the functions' own answers, whatever is asked for, from any sound sheet
-pub edits-commute : {s : Sheet} {e f : Edit} {r q q₂ r₂ : Edited} → Sound s → independent (editing e) (editing f) ≡ true
-    → EditAnswered s e r → EditAnswered (r .sheet) f q → EditAnswered s f q₂ → EditAnswered (q₂ .sheet) e r₂ → EitherOrder r q q₂ r₂
-edits-commute {s} {e} {f} v i a b c d =
+pub edits-commute : {s : Sheet} {e f : Edit} {a b b₂ a₂ : Edited} → Sound s → independent (editing e) (editing f) ≡ true
+    → EditAnswered s e a → EditAnswered (a .sheet) f b → EditAnswered s f b₂ → EditAnswered (b₂ .sheet) e a₂ → EitherOrder a b b₂ a₂
+edits-commute {s} {e} {f} v i p q q₂ p₂ =
     let w = commute (bookOf s) (editing e) (editing f) i in
     record {
-      first = second-refused v c d ∙ ap refusalOf (w .first) ∙ sym (edit-refused v a);
-      second = edit-refused v c ∙ ap refusalOf (sym (w .second)) ∙ sym (second-refused v a b);
-      sheet = second-left v c d ∙ ap sheetOf (sym (w .book)) ∙ sym (second-left v a b);
+      first = second-refused v q₂ p₂ ∙ ap refusalOf (w .first) ∙ sym (edit-refused v p);
+      second = edit-refused v q₂ ∙ ap refusalOf (sym (w .second)) ∙ sym (second-refused v p q);
+      sheet = second-left v q₂ p₂ ∙ ap sheetOf (sym (w .book)) ∙ sym (second-left v p q);
     }
 
--- ---- two lists in a run
+-- ---- two lists in a run, from any sheet file and any worklist that is not refused
 
--- from any sheet file and any worklist that is not refused
-module _ (o : Source) (r : Reading) (e : ReadAnswered (says o) r) (q : r .refusal ≡ Nothing)
-    (cs xs ys zs : List Call) (i : allIndependent xs ys ≡ true) where
-  pub run-interleaved : (t : List Bool) {rs : List Reply} {u : Sheet} → Chain (r .sheet) (byTurns t cs xs ys zs) rs u
-      → Interleaved o t cs xs ys zs rs u
-  run-interleaved t h =
-      let w = run-holds o r e q h in
-      let k = w .book in
+module _ (o : Source) (r : Reading) (e : ReadAnswered (says o) r) (q : r .refusal ≡ Nothing) (cs zs : List Call) where
+  pub run-interleaved : {xs ys ws : List Call} {rs : List Reply} {u : Sheet} (h : Interleaving xs ys ws) → allIndependent xs ys ≡ true
+      → Chain (r .sheet) (cs ++ (ws ++ zs)) rs u → Interleaved o h cs zs rs u
+  run-interleaved h i g =
+      let w = run-holds o r e q g in
       record {
-        book = k;
+        book = w .book;
         said = w .said;
-        sheet = w .sheet ∙ ap sheetOf (interleaves k .book t cs xs ys zs i);
-        replies = w .replies ∙ ap (map answerNumbers) (interleaves k .replies t cs xs ys zs i);
+        sheet = w .sheet ∙ ap sheetOf (interleaves (w .book) .book h i cs zs);
+        replies = w .replies ∙ ap (map answerNumbers) (interleaves (w .book) .replies h i cs zs);
       }
 
-  -- whatever the turns, the sheet at the end is the same
-  pub any-turns : (t v : List Bool) {rs ps : List Reply} {u w : Sheet} → Chain (r .sheet) (byTurns t cs xs ys zs) rs u
-      → Chain (r .sheet) (byTurns v cs xs ys zs) ps w → u ≡ w
-  any-turns t v h g =
-      let a = run-interleaved t h in
-      let b = run-interleaved v g in
-      let same : a .book ≡ b .book = cc in
-      a .sheet ∙ ap (λ (k : Book). sheetOf (bookAfter k (cs ++ (xs ++ ys ++ zs)))) same ∙ sym (b .sheet)
+  -- in whatever way they are interleaved, the sheet at the end is the same
+  pub any-interleaving : {xs ys ws vs : List Call} {rs ps : List Reply} {u w : Sheet} → Interleaving xs ys ws → Interleaving xs ys vs
+      → allIndependent xs ys ≡ true → Chain (r .sheet) (cs ++ (ws ++ zs)) rs u → Chain (r .sheet) (cs ++ (vs ++ zs)) ps w → w ≡ u
+  any-interleaving {xs} {ys} h l i g f =
+      let a = run-interleaved h i g in
+      let b = run-interleaved l i f in
+      let same : b .book ≡ a .book = cc in
+      b .sheet ∙ ap (λ (k : Book). sheetOf (bookAfter k (cs ++ (xs ++ ys ++ zs)))) same ∙ sym (a .sheet)
 
--- two neighbours in a list of calls
-pub neighbours-sheet : (o : Source) (r : Reading) → ReadAnswered (says o) r → r .refusal ≡ Nothing → (cs zs : List Call) (c d : Call)
-    → independent c d ≡ true → {rs ps : List Reply} {u w : Sheet} → Chain (r .sheet) (cs ++ (c ∷ d ∷ zs)) rs u
-    → Chain (r .sheet) (cs ++ (d ∷ c ∷ zs)) ps w → u ≡ w
-unfolding interleave
-neighbours-sheet o r e q cs zs c d h = any-turns o r e q cs (c ∷ []) (d ∷ []) zs (ones-independent c d h) (true ∷ []) (false ∷ [])
+  -- two neighbours
+  pub run-neighbours : {c d : Call} {rs ps : List Reply} {u w : Sheet} → independent c d ≡ true → Chain (r .sheet) (cs ++ (c ∷ d ∷ zs)) rs u
+      → Chain (r .sheet) (cs ++ (d ∷ c ∷ zs)) ps w → Neighbours o c d cs zs rs u ps w
+  run-neighbours {c} {d} h g f =
+      let i = ones-independent c d h in
+      record {
+        one = run-interleaved (in-order c d) i g;
+        other = run-interleaved (other-order c d) i f;
+        sheet = any-interleaving (in-order c d) (other-order c d) i g f;
+      }

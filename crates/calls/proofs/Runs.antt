@@ -26,7 +26,7 @@ use Rattle.calls.specs.Runs as S
 
 -- ---- a sheet that holds a book
 
-stands : (k : Book) (s : Sheet) → sound k ≡ true → s ≡ sheetOf k → HoldsBook k s
+pub stands : (k : Book) (s : Sheet) → sound k ≡ true → s ≡ sheetOf k → HoldsBook k s
 stands k s v e = record {
   sound = rw e (sheet-sound k v);
   sheet = e;

@@ -2,7 +2,6 @@
 -- claimed of a whole list.
 use Prim.Native.Nat.{ℕ}
 use mathlib.Core.Path.{_≡_}
-use mathlib.Core.Bool.{Bool}
 use mathlib.Core.List.{List, [], _∷_, _++_, map}
 use lib.ListN.{length}
 use Rattle.rules.specs.Sheet.{Book}
@@ -11,8 +10,9 @@ use Rattle.rules.specs.Read.{Reading, accepted, read}
 use Rattle.rules.specs.Worklist.{taken}
 use Rattle.rules.specs.Run.{Call, answer, next, bookAfter, answers, answerNumbers}
 use Rattle.rules.specs.Run as R
-use Rattle.rules.specs.Interleave.{byTurns, answersByTurns}
+use Rattle.rules.specs.Interleave.{Interleaving, turns, answersByTurns}
 use Rattle.theory.proofs.Claims.{Claims}
+use Rattle.theory.proofs.Interleave.{in-order, other-order}
 use Rattle.sheet.specs.declared.Sheet.{Sheet}
 use Rattle.sheet.specs.declared.Edited.{Edited}
 use Rattle.sheet.specs.Represent.{Sound, sheetOf, bookOf}
@@ -79,7 +79,7 @@ says (worklist m l s) = taken m l s
 
 -- ---- what is claimed
 
--- the sheet s holds the book k, on which all claims about reviews, trials, balance and settle hold
+-- the sheet s holds the book k, on which all claims hold
 pub record HoldsBook (k : Book) (s : Sheet) : Type 0 where
   pub sound : Sound s
   pub sheet : s ≡ sheetOf k
@@ -102,17 +102,23 @@ pub record Whole (source : Source) (s : Sheet) (cs : List Call) (rs : List Reply
 
 -- ---- edits in either order (document 02, C-19)
 
--- Two edits on one sheet: r and q answer them in this order, and from the same sheet again q₂ and r₂ in the other. Each is refused alike or
--- made both times, and the sheet after both is the same.
-pub record EitherOrder (r q q₂ r₂ : Edited) : Type 0 where
-  pub first : r₂ .refusal ≡ r .refusal
-  pub second : q₂ .refusal ≡ q .refusal
-  pub sheet : r₂ .sheet ≡ q .sheet
+-- Two edits on one sheet. Where the first comes first they are answered a and b, and where the second does, from the same sheet again, b₂
+-- and a₂: each is refused alike or made both times, and the sheet after both is the same.
+pub record EitherOrder (a b b₂ a₂ : Edited) : Type 0 where
+  pub first : a₂ .refusal ≡ a .refusal
+  pub second : b₂ .refusal ≡ b .refusal
+  pub sheet : a₂ .sheet ≡ b .sheet
 
--- A run in which the lists xs and ys stand by turns t, after cs and before zs. The sheet at the end is that of the one list and then the
--- other, and so that of any turns; each call of either list has the reply that it has where the other is not there.
-pub record Interleaved (source : Source) (t : List Bool) (cs xs ys zs : List Call) (rs : List Reply) (u : Sheet) : Type 0 where
+-- A run in which xs and ys stand interleaved, after cs and before zs. The sheet at the end is that of the one list and then the other, and so
+-- that of any interleaving; each call of either list has the reply that it has where the other is not there.
+pub record Interleaved (source : Source) {xs ys ws : List Call} (h : Interleaving xs ys ws) (cs zs : List Call) (rs : List Reply) (u : Sheet) : Type 0 where
   pub book : Book
   pub said : says source ≡ accepted book
   pub sheet : u ≡ sheetOf (bookAfter book (cs ++ (xs ++ ys ++ zs)))
-  pub replies : chainNumbers book (byTurns t cs xs ys zs) rs ≡ map answerNumbers (answersByTurns book t cs xs ys zs)
+  pub replies : chainNumbers book (cs ++ (ws ++ zs)) rs ≡ map answerNumbers (answersByTurns book (turns h) cs xs ys zs)
+
+-- two runs in which neighbours, c and d, have changed places
+pub record Neighbours (source : Source) (c d : Call) (cs zs : List Call) (rs : List Reply) (u : Sheet) (ps : List Reply) (w : Sheet) : Type 0 where
+  pub one : Interleaved source (in-order c d) cs zs rs u
+  pub other : Interleaved source (other-order c d) cs zs ps w
+  pub sheet : w ≡ u

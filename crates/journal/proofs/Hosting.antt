@@ -151,7 +151,7 @@ module _ (s j : List ℕ) (r : Left) (e : r ≡ judgedOf s j) where
 -- ---- a sheet that is read as k, and a journal that spells cs
 
 -- The buffer gets the answers of cs, each on the book that the calls before it leave, or the sheet as they leave it, or the answer is 9;
--- and all that is claimed of reviews, trials, balance, settle and the file written holds before each call and after the last.
+-- and all that is claimed of a book holds before each call and after the last.
 pub record Through (s j buffer : List ℕ) (k : Book) (cs : List Call) : Type 0 where
   pub said : runHost s j buffer ≡ intoBuffer (text (answerText k cs)) buffer
   pub left : writeHost s j buffer ≡ intoBuffer (text (sheetText k cs)) buffer

@@ -6,13 +6,13 @@ use Prim.Native.String.{String}
 use mathlib.Core.Path.{_≡_, refl}
 use mathlib.Core.Bool.{Bool, true, false}
 use mathlib.Core.List.{List, [], _∷_, map, _++_}
-use lib.ListN.{replicate}
+use lib.ListN.{length, replicate}
 use Rattle.rules.specs.Fold.{_and_, _or_, mem, every, sumTo, most, maxTo, orElse, firstTo, anyTo, allTo, lesser, leastTo, greater, greatestTo, thoseTo, listTo}
 use Rattle.rules.specs.Refusal.{malformed, badSize, badLength, badList, badPlace, badCalibration, noBatch, hasStarted, levelAbove, bufferShort}
-use Rattle.rules.specs.Sheet.{waiting, isBatch, goodInstruments, goodMinutes, goodCalibration, goodCalibrations, isInstrument, distinct, goodList, goodBatch, sound}
+use Rattle.rules.specs.Sheet.{Book, Batch, waiting, begun, isBatch, goodInstruments, goodMinutes, goodCalibration, goodCalibrations, isInstrument, distinct, goodList, goodBatch, sound}
 use Rattle.rules.specs.Field.{Field, value, blank, fault, digits, loneZero, blanks, field}
 use Rattle.rules.specs.Read.{Reading, accepted, refusedAt, numberAt, placeAt, endOfLine, headLine, calibrationsAt, calibrationLine, markAt, instrumentsAt, goodPlace, batchLine, batchLines, linesAfter, read}
-use Rattle.rules.specs.Render.{columns, fields, Given, numbered, leftBlank, Described, Description, renderBatches, render, batchWithinLimits, withinLimits}
+use Rattle.rules.specs.Render.{columns, fields, mark, Given, numbered, leftBlank, Described, Description, renderBatches, render, batchWithinLimits, withinLimits}
 use Rattle.rules.specs.Rewrite.{written, unmarked, openInBatches, openColumns, alike}
 use Rattle.rules.specs.Edit.{add, withdraw, requalify, move, start, kept, edit}
 use Rattle.rules.specs.Instance.{Assignment, calibrationsTo, busy, instance}
@@ -206,6 +206,14 @@ loaded =
     ∷ "    10     1     0     2     1     2"
     ∷ [])
 
+-- the same, as a book
+abbrev loadedBook : Book
+loadedBook = record {
+  m = 2;
+  calibrations = 0 ∷ 0 ∷ [];
+  batches = begun (waiting 30 (2 ∷ 1 ∷ []) 1) ∷ waiting 20 (1 ∷ []) 1 ∷ waiting 10 (1 ∷ 2 ∷ []) 1 ∷ [];
+}
+
 -- three that have started on one instrument, and could have run on three
 abbrev stuck : List ℕ
 stuck =
@@ -252,8 +260,8 @@ data Ask : Type 0 where
   confining : List ℕ → List ℕ → Ask
   -- whether the sheet of a file has a batch or a calibration above 0
   stirring : List ℕ → Ask
-  -- two calls on the sheet of a file, in this order and in the other
-  swapping : List ℕ → Call → Call → Ask
+  -- two calls on a book, in this order and in the other
+  swapping : Book → Call → Call → Ask
   -- whether each call of a list is independent of each of another
   separating : List Call → List Call → Ask
   -- two lists by turns
@@ -280,7 +288,7 @@ data Said : Type 0 where
   compared : Comparison → Said
   -- the list's marks, and whether it lies in the group
   lies : List ℕ → Bool → Said
-  -- whether the two are independent; what both are answered, the first before the second and after it; whether the sheet left is the same
+  -- whether the two are independent; what both are answered, the first before the second and after it; whether the batches left are the same
   swapped : Bool → List Answer → List Answer → Bool → Said
   mixed : List ℕ → Said
   noSheet : Said
@@ -306,12 +314,18 @@ abbrev busyOn : Reading → Said
 busyOn (accepted k) = matched (busy k)
 busyOn (refusedAt e j) = noSheet
 
-abbrev swappedOn : Reading → Call → Call → Said
-swappedOn (accepted k) c d =
-    let s = written (next (next k c) d) in
-    swapped (independent c d) (answer k c ∷ answer (next k c) d ∷ []) (answer (next k d) c ∷ answer k d ∷ [])
-    (alike (unmarked s) s (written (next (next k d) c)))
-swappedOn (refusedAt e j) c d = noSheet
+-- batches as numbers
+abbrev batchNumbers : List Batch → List ℕ
+batchNumbers [] = []
+batchNumbers (b ∷ bs) = b .minutes ∷ b .place ∷ mark (b .started) ∷ length (b .list) ∷ b .list ++ batchNumbers bs
+
+abbrev swappedOn : Book → Call → Call → Said
+swappedOn k c d =
+    let j = next k c in
+    let i = next k d in
+    let l = batchNumbers (next j d .batches) in
+    swapped (independent c d) (answer k c ∷ answer j d ∷ []) (answer i c ∷ answer k d ∷ [])
+    (alike (unmarked l) l (batchNumbers (next i c .batches)))
 
 abbrev writtenOf : Reading → Said
 writtenOf (accepted k) = fileSaid (written k)
@@ -332,7 +346,7 @@ say (calling s cs) = callsOn (read s) cs
 say (comparing s g y) = comparedOn (read s) g y
 say (confining l g) = lies (marksOf l) (within l g)
 say (stirring s) = busyOn (read s)
-say (swapping s c d) = swappedOn (read s) c d
+say (swapping k c d) = swappedOn k c d
 say (separating xs ys) = matched (allIndependent xs ys)
 say (mixing t xs ys) = mixed (interleave t xs ys)
 
@@ -760,41 +774,41 @@ table =
           ∷ []);
     }))
     -- edits of different batches, in either order: made, refused for every reason, and without a batch
-    ∷ row 27 (swapping loaded (editing (move 3 2)) (editing (start 2))) (swapped true (done ∷ done ∷ []) (done ∷ done ∷ []) true)
-    ∷ row 27 (swapping loaded (editing (requalify 3 (2 ∷ []))) (editing (requalify 2 [])))
+    ∷ row 27 (swapping loadedBook (editing (move 3 2)) (editing (start 2))) (swapped true (done ∷ done ∷ []) (done ∷ done ∷ []) true)
+    ∷ row 27 (swapping loadedBook (editing (requalify 3 (2 ∷ []))) (editing (requalify 2 [])))
     (swapped true (done ∷ refused badList ∷ []) (done ∷ refused badList ∷ []) true)
-    ∷ row 27 (swapping loaded (editing (move 1 2)) (editing (move 2 2)))
+    ∷ row 27 (swapping loadedBook (editing (move 1 2)) (editing (move 2 2)))
     (swapped true (refused hasStarted ∷ refused badPlace ∷ []) (refused hasStarted ∷ refused badPlace ∷ []) true)
-    ∷ row 27 (swapping loaded (editing (start 0)) (editing (move 1 1)))
+    ∷ row 27 (swapping loadedBook (editing (start 0)) (editing (move 1 1)))
     (swapped true (refused noBatch ∷ refused hasStarted ∷ []) (refused noBatch ∷ refused hasStarted ∷ []) true)
-    ∷ row 27 (swapping loaded (editing (start 4)) (editing (start 3))) (swapped true (refused noBatch ∷ done ∷ []) (refused noBatch ∷ done ∷ []) true)
+    ∷ row 27 (swapping loadedBook (editing (start 4)) (editing (start 3))) (swapped true (refused noBatch ∷ done ∷ []) (refused noBatch ∷ done ∷ []) true)
     -- of one batch the order counts, in the sheet or in an answer
-    ∷ row 27 (swapping loaded (editing (move 3 2)) (editing (start 3)))
+    ∷ row 27 (swapping loadedBook (editing (move 3 2)) (editing (start 3)))
     (swapped false (done ∷ done ∷ []) (refused hasStarted ∷ done ∷ []) false)
-    ∷ row 27 (swapping loaded (editing (move 3 2)) (editing (move 3 1))) (swapped false (done ∷ done ∷ []) (done ∷ done ∷ []) false)
-    ∷ row 27 (swapping loaded (editing (requalify 3 (1 ∷ []))) (editing (move 3 2)))
+    ∷ row 27 (swapping loadedBook (editing (move 3 2)) (editing (move 3 1))) (swapped false (done ∷ done ∷ []) (done ∷ done ∷ []) false)
+    ∷ row 27 (swapping loadedBook (editing (requalify 3 (1 ∷ []))) (editing (move 3 2)))
     (swapped false (done ∷ refused badPlace ∷ []) (done ∷ done ∷ []) true)
-    -- with an addition it counts, whatever the other edit is
-    ∷ row 27 (swapping loaded (editing (add 5 (1 ∷ []))) (editing (add 6 (1 ∷ [])))) (swapped false (done ∷ done ∷ []) (done ∷ done ∷ []) false)
-    ∷ row 27 (swapping loaded (editing (add 5 (1 ∷ []))) (editing (withdraw 4)))
+    -- with an addition it may count, of whatever kind the other edit is
+    ∷ row 27 (swapping loadedBook (editing (add 5 (1 ∷ []))) (editing (add 6 (1 ∷ [])))) (swapped false (done ∷ done ∷ []) (done ∷ done ∷ []) false)
+    ∷ row 27 (swapping loadedBook (editing (add 5 (1 ∷ []))) (editing (withdraw 4)))
     (swapped false (done ∷ done ∷ []) (done ∷ refused noBatch ∷ []) false)
-    ∷ row 27 (swapping loaded (editing (add 5 (1 ∷ []))) (editing (requalify 4 (2 ∷ []))))
+    ∷ row 27 (swapping loadedBook (editing (add 5 (1 ∷ []))) (editing (requalify 4 (2 ∷ []))))
     (swapped false (done ∷ done ∷ []) (done ∷ refused noBatch ∷ []) false)
-    ∷ row 27 (swapping loaded (editing (add 5 (1 ∷ 2 ∷ []))) (editing (move 4 2)))
+    ∷ row 27 (swapping loadedBook (editing (add 5 (1 ∷ 2 ∷ []))) (editing (move 4 2)))
     (swapped false (done ∷ done ∷ []) (done ∷ refused noBatch ∷ []) false)
-    ∷ row 27 (swapping loaded (editing (add 5 (1 ∷ []))) (editing (start 4)))
+    ∷ row 27 (swapping loadedBook (editing (add 5 (1 ∷ []))) (editing (start 4)))
     (swapped false (done ∷ done ∷ []) (done ∷ refused noBatch ∷ []) false)
-    -- and with a withdrawal of another batch
-    ∷ row 27 (swapping loaded (editing (withdraw 2)) (editing (withdraw 3)))
+    -- and so with a withdrawal of another batch
+    ∷ row 27 (swapping loadedBook (editing (withdraw 2)) (editing (withdraw 3)))
     (swapped false (done ∷ refused noBatch ∷ []) (done ∷ done ∷ []) false)
-    ∷ row 27 (swapping loaded (editing (withdraw 2)) (editing (requalify 3 (2 ∷ []))))
+    ∷ row 27 (swapping loadedBook (editing (withdraw 2)) (editing (requalify 3 (2 ∷ []))))
     (swapped false (done ∷ refused noBatch ∷ []) (done ∷ done ∷ []) false)
-    ∷ row 27 (swapping loaded (editing (withdraw 2)) (editing (move 3 2)))
+    ∷ row 27 (swapping loadedBook (editing (withdraw 2)) (editing (move 3 2)))
     (swapped false (done ∷ refused noBatch ∷ []) (done ∷ done ∷ []) false)
-    ∷ row 27 (swapping loaded (editing (withdraw 2)) (editing (start 3)))
+    ∷ row 27 (swapping loadedBook (editing (withdraw 2)) (editing (start 3)))
     (swapped false (done ∷ refused noBatch ∷ []) (done ∷ done ∷ []) false)
     -- other calls are not among those that the law is about
-    ∷ row 27 (swapping loaded reviewing (editing (move 3 2)))
+    ∷ row 27 (swapping loadedBook reviewing (editing (move 3 2)))
     (swapped false (reviewSaid (60 ∷ 0 ∷ []) 60 3 ∷ done ∷ []) (reviewSaid (50 ∷ 10 ∷ []) 50 0 ∷ done ∷ []) true)
     -- lists: every pair counts, and nothing is asked of one beside an empty one
     ∷ row 27 (separating (editing (move 1 1) ∷ editing (start 3) ∷ []) (editing (start 2) ∷ editing (requalify 4 []) ∷ [])) (matched true)

@@ -1,5 +1,5 @@
--- Document 02, C-19: the calls that move, requalify or start a batch; when two of them are of different batches; and two lists of calls made
--- by turns.
+-- Document 02, C-19: the calls that move, requalify or start a batch; when two of them are of different batches; and two lists of calls
+-- as one.
 use Prim.Native.Nat.{ℕ}
 use mathlib.Core.Bool.{Bool, true, false, not}
 use mathlib.Core.List.{List, [], _∷_, _++_}
@@ -39,8 +39,20 @@ independent c d = different (subject c) (subject d)
 unfoldable pub allIndependent : List Call → List Call → Bool
 allIndependent xs ys = every (λ (c : Call). every (independent c) ys) xs
 
--- Two lists as one, each in its own order: true takes the next entry of the first, and false that of the second. Where there is none, or
--- no turn is left, what remains follows, of the first and then of the second.
+-- the third list is the other two as one, each in its own order
+pub data Interleaving {X : Type 0} : List X → List X → List X → Type 0 where
+  end : Interleaving [] [] []
+  first : {x : X} {xs ys ws : List X} → Interleaving xs ys ws → Interleaving (x ∷ xs) ys (x ∷ ws)
+  second : {y : X} {xs ys ws : List X} → Interleaving xs ys ws → Interleaving xs (y ∷ ys) (y ∷ ws)
+
+-- whose turn it is, entry for entry: true for the first list
+unfoldable pub turns : {X : Type 0} {xs ys ws : List X} → Interleaving xs ys ws → List Bool
+turns end = []
+turns (first h) = true ∷ turns h
+turns (second h) = false ∷ turns h
+
+-- Two lists by turns. Where the list whose turn it is has no entry, or no turn is left, what remains follows, of the first and then of the
+-- second.
 unfoldable pub interleave : {X : Type 0} → List Bool → List X → List X → List X
 interleave [] xs ys = xs ++ ys
 interleave (true ∷ t) [] ys = ys
@@ -48,11 +60,8 @@ interleave (true ∷ t) (x ∷ xs) ys = x ∷ interleave t xs ys
 interleave (false ∷ t) xs [] = xs
 interleave (false ∷ t) xs (y ∷ ys) = y ∷ interleave t xs ys
 
--- a list of calls in which xs and ys stand by turns, after cs and before zs
-abbrev pub byTurns : List Bool → List Call → List Call → List Call → List Call → List Call
-byTurns t cs xs ys zs = cs ++ (interleave t xs ys ++ zs)
-
--- what they are answered from the book k on, if xs and ys are each made for itself, after cs and without the other, and zs after both
+-- The answers to cs, then by turns those to xs and ys, and then those to zs, from the book k on: xs and ys are each made after cs, without the
+-- other, and zs after both.
 abbrev pub answersByTurns : Book → List Bool → List Call → List Call → List Call → List Call → List Answer
 answersByTurns k t cs xs ys zs =
     let j = bookAfter k cs in

@@ -2,7 +2,7 @@
 -- plans compared with, started batches, edits in either order and files.
 use Prim.Native.Nat.{ℕ, suc, _-_, _*_, _≤_, _<_}
 use mathlib.Core.Path.{_≡_}
-use mathlib.Core.Bool.{Bool, true, false}
+use mathlib.Core.Bool.{true, false}
 use mathlib.Core.List.{List, [], _∷_, _++_, map}
 use lib.ListN.{length, take, drop}
 use lib.Dec.{ltb}
@@ -21,7 +21,7 @@ use Rattle.rules.specs.LowerBound.{witnessed}
 use Rattle.rules.specs.Round.{multiples, closeTo}
 use Rattle.rules.specs.Moves.{Move, follow}
 use Rattle.rules.specs.Run.{Call, editing, reviewing, trying, balancing, settling, Answer, balanced, settled, answer, next, bookAfter, answers, balanceBook, settleBook, recordsTo, withPlaces}
-use Rattle.rules.specs.Interleave.{independent, allIndependent, byTurns, answersByTurns}
+use Rattle.rules.specs.Interleave.{independent, allIndependent, Interleaving, turns, answersByTurns}
 use Rattle.rules.specs.Run as R
 use Rattle.rules.specs.Listing.{planBook}
 use Rattle.theory.proofs.Valid.{Valid, Permitted}
@@ -165,15 +165,15 @@ pub record Commutes (k : Book) (c d : Call) : Type 0 where
   pub second : answer (next k c) d ≡ answer k d
   pub book : next (next k c) d ≡ next (next k d) c
 
--- Of calls that move, requalify or start different batches, refused or not: any two of them commute. And of two lists of them that stand by
--- turns in a list of calls, whatever the turns: each call is answered as if the other list were not there, those that follow as after the
--- one list and then the other, and the book at the end is that one too.
+-- Of calls that move, requalify or start different batches, refused or not: any two of them commute. And of two lists of them, interleaved in
+-- whatever way, with any calls before and after: each call is answered as if the other list were not there, those after both lists as after
+-- the one list and then the other, and the book at the end is that one too.
 pub record Interleaves (k : Book) : Type 0 where
   pub pairs : (c d : Call) → independent c d ≡ true → Commutes k c d
-  pub replies : (t : List Bool) (cs xs ys zs : List Call) → allIndependent xs ys ≡ true
-      → answers k (byTurns t cs xs ys zs) ≡ answersByTurns k t cs xs ys zs
-  pub book : (t : List Bool) (cs xs ys zs : List Call) → allIndependent xs ys ≡ true
-      → bookAfter k (byTurns t cs xs ys zs) ≡ bookAfter k (cs ++ (xs ++ ys ++ zs))
+  pub replies : {xs ys ws : List Call} (h : Interleaving xs ys ws) → allIndependent xs ys ≡ true → (cs zs : List Call)
+      → answers k (cs ++ (ws ++ zs)) ≡ answersByTurns k (turns h) cs xs ys zs
+  pub book : {xs ys ws : List Call} → Interleaving xs ys ws → allIndependent xs ys ≡ true → (cs zs : List Call)
+      → bookAfter k (cs ++ (ws ++ zs)) ≡ bookAfter k (cs ++ (xs ++ ys ++ zs))
 
 pub record Claims (k : Book) : Type 0 where
   pub sound : sound k ≡ true

@@ -1,55 +1,23 @@
 -- Two lists of edits on different batches, interleaved (document 02, C-19): each edit is answered as if the other list were not there, and
 -- the book at the end is that of the one list and then the other.
 use mathlib.Core.Path.{_≡_, refl, sym, ap, ap₂, _∙_}
-use mathlib.Core.Bool.{Bool, true, false}
-use mathlib.Core.List.{List, [], _∷_, _++_, append-nil}
+use mathlib.Core.Bool.{true}
+use mathlib.Core.List.{List, [], _∷_, _++_}
 use borrow.Author.Tests.{eqb-false, ne-eqb, not-true}
 use Rattle.rules.specs.Fold.{_and_, every}
 use Rattle.rules.specs.Sheet.{Book}
 use Rattle.rules.specs.Run.{Call, Answer, answer, next, bookAfter, answers}
-use Rattle.rules.specs.Interleave.{Subject, one, none, subject, different, independent, allIndependent, interleave}
+use Rattle.rules.specs.Interleave.{Subject, one, none, subject, different, independent, allIndependent, Interleaving, end, first, second, turns, interleave}
 use Rattle.theory.proofs.Logic.{conflict, not-mk, and-left, and-right, and-mk}
 use Rattle.theory.proofs.Claims.{Interleaves}
 use Rattle.theory.proofs.Commute.{commute}
 
--- ---- every interleaving is one by turns, and each of these is one
-
-pub data Interleaving {X : Type 0} : List X → List X → List X → Type 0 where
-  end : Interleaving [] [] []
-  first : {x : X} {xs ys zs : List X} → Interleaving xs ys zs → Interleaving (x ∷ xs) ys (x ∷ zs)
-  second : {y : X} {xs ys zs : List X} → Interleaving xs ys zs → Interleaving xs (y ∷ ys) (y ∷ zs)
-
-module _ {X : Type 0} where
-  all-second : (ys : List X) → Interleaving [] ys ys
-  all-second [] = end
-  all-second (y ∷ ys) = second (all-second ys)
-
-  all-first : (xs : List X) → Interleaving xs [] xs
-  all-first [] = end
-  all-first (x ∷ xs) = first (all-first xs)
-
-  joined : (xs ys : List X) → Interleaving xs ys (xs ++ ys)
-  joined [] ys = all-second ys
-  joined (x ∷ xs) ys = first (joined xs ys)
-
-  pub turns-interleave : (t : List Bool) (xs ys : List X) → Interleaving xs ys (interleave t xs ys)
-  unfolding interleave
-  turns-interleave [] xs ys = joined xs ys
-  turns-interleave (true ∷ t) [] ys = all-second ys
-  turns-interleave (true ∷ t) (x ∷ xs) ys = first (turns-interleave t xs ys)
-  turns-interleave (false ∷ t) xs [] = all-first xs
-  turns-interleave (false ∷ t) xs (y ∷ ys) = second (turns-interleave t xs ys)
-
-  unfoldable pub turns : {xs ys zs : List X} → Interleaving xs ys zs → List Bool
-  turns end = []
-  turns (first h) = true ∷ turns h
-  turns (second h) = false ∷ turns h
-
-  pub interleave-turns : {xs ys zs : List X} (h : Interleaving xs ys zs) → interleave (turns h) xs ys ≡ zs
-  unfolding interleave turns
-  interleave-turns end = refl
-  interleave-turns (first {x = x} h) = ap (λ (l : List X). x ∷ l) (interleave-turns h)
-  interleave-turns (second {y = y} h) = ap (λ (l : List X). y ∷ l) (interleave-turns h)
+-- by its turns an interleaving is made again
+pub interleave-turns : {X : Type 0} {xs ys ws : List X} (h : Interleaving xs ys ws) → interleave (turns h) xs ys ≡ ws
+unfolding interleave turns
+interleave-turns end = refl
+interleave-turns {X} (first {x = x} h) = ap (λ (l : List X). x ∷ l) (interleave-turns h)
+interleave-turns {X} (second {y = y} h) = ap (λ (l : List X). y ∷ l) (interleave-turns h)
 
 -- ---- lists of calls joined
 
@@ -112,65 +80,65 @@ rest : (x : Call) (xs ys : List Call) → allIndependent (x ∷ xs) ys ≡ true 
 unfolding allIndependent every
 rest x xs ys h = and-right (every (independent x) ys) _ h
 
--- a list after another
-after-answers : (k : Book) (xs ys : List Call) → allIndependent xs ys ≡ true → answers (bookAfter k xs) ys ≡ answers k ys
+woven-answers : (k : Book) {xs ys ws : List Call} (h : Interleaving xs ys ws) → allIndependent xs ys ≡ true
+    → answers k ws ≡ interleave (turns h) (answers k xs) (answers k ys)
+unfolding turns interleave answers
+woven-answers k end i = refl
+woven-answers k (first {x = x} {xs = xs} {ys = ys} h) i = rw (woven-answers (next k x) h (rest x xs ys i), past-answers k x ys (here x xs ys i))
+woven-answers k (second {y = y} {xs = xs} {ys = ys} h) i =
+    rw (woven-answers (next k y) h (fewer xs y ys i), past-answers k y xs (turned xs y ys i))
+
+woven-book : (k : Book) {xs ys ws : List Call} → Interleaving xs ys ws → allIndependent xs ys ≡ true → bookAfter k ws ≡ bookAfter k (xs ++ ys)
 unfolding bookAfter
-after-answers k [] ys h = refl
-after-answers k (x ∷ xs) ys h = after-answers (next k x) xs ys (rest x xs ys h) ∙ past-answers k x ys (here x xs ys h)
-
-turns-answers : (k : Book) (t : List Bool) (xs ys : List Call) → allIndependent xs ys ≡ true
-    → answers k (interleave t xs ys) ≡ interleave t (answers k xs) (answers k ys)
-unfolding interleave answers
-turns-answers k [] xs ys h = answers-append k xs ys ∙ ap (λ (l : List Answer). answers k xs ++ l) (after-answers k xs ys h)
-turns-answers k (true ∷ t) [] ys h = refl
-turns-answers k (true ∷ t) (x ∷ xs) ys h = rw (turns-answers (next k x) t xs ys (rest x xs ys h), past-answers k x ys (here x xs ys h))
-turns-answers k (false ∷ t) xs [] h = refl
-turns-answers k (false ∷ t) xs (y ∷ ys) h =
-    rw (turns-answers (next k y) t xs ys (fewer xs y ys h), past-answers k y xs (turned xs y ys h))
-
-turns-book : (k : Book) (t : List Bool) (xs ys : List Call) → allIndependent xs ys ≡ true
-    → bookAfter k (interleave t xs ys) ≡ bookAfter k (xs ++ ys)
-unfolding interleave bookAfter
-turns-book k [] xs ys h = refl
-turns-book k (true ∷ t) [] ys h = refl
-turns-book k (true ∷ t) (x ∷ xs) ys h = turns-book (next k x) t xs ys (rest x xs ys h)
-turns-book k (false ∷ t) xs [] h = ap (bookAfter k) (sym (append-nil xs))
-turns-book k (false ∷ t) xs (y ∷ ys) h =
-    turns-book (next k y) t xs ys (fewer xs y ys h)
+woven-book k end i = refl
+woven-book k (first {x = x} {xs = xs} {ys = ys} h) i = woven-book (next k x) h (rest x xs ys i)
+woven-book k (second {y = y} {xs = xs} {ys = ys} h) i =
+    woven-book (next k y) h (fewer xs y ys i)
     ∙ book-append (next k y) xs ys
-    ∙ ap (λ (j : Book). bookAfter j ys) (past-book k y xs (turned xs y ys h))
+    ∙ ap (λ (j : Book). bookAfter j ys) (past-book k y xs (turned xs y ys i))
     ∙ sym (book-append k xs (y ∷ ys))
 
 -- between other calls
 pub interleaves : (k : Book) → Interleaves k
 interleaves k = record {
   pairs = commute k;
-  replies = λ t cs xs ys zs h.
+  replies = λ {xs} {ys} {ws} h i cs zs.
       let j = bookAfter k cs in
-      answers-append k cs (interleave t xs ys ++ zs)
+      answers-append k cs (ws ++ zs)
       ∙ ap (λ (l : List Answer). answers k cs ++ l)
-      (answers-append j (interleave t xs ys) zs
-      ∙ ap₂ (λ (l : List Answer) (b : Book). l ++ answers b zs) (turns-answers j t xs ys h) (turns-book j t xs ys h));
-  book = λ t cs xs ys zs h.
+      (answers-append j ws zs ∙ ap₂ (λ (l : List Answer) (b : Book). l ++ answers b zs) (woven-answers j h i) (woven-book j h i));
+  book = λ {xs} {ys} {ws} h i cs zs.
       let j = bookAfter k cs in
-      book-append k cs (interleave t xs ys ++ zs)
-      ∙ book-append j (interleave t xs ys) zs
-      ∙ ap (λ (b : Book). bookAfter b zs) (turns-book j t xs ys h)
+      book-append k cs (ws ++ zs)
+      ∙ book-append j ws zs
+      ∙ ap (λ (b : Book). bookAfter b zs) (woven-book j h i)
       ∙ sym (book-append j (xs ++ ys) zs)
       ∙ sym (book-append k cs (xs ++ ys ++ zs));
 }
 
--- two neighbours in a list of calls are lists of one call each
+-- ---- two neighbours in a list of calls
+
+-- as lists of one call each, in either order
 pub ones-independent : (c d : Call) → independent c d ≡ true → allIndependent (c ∷ []) (d ∷ []) ≡ true
 unfolding allIndependent every
 ones-independent c d h = and-mk _ _ (and-mk _ _ h refl) refl
 
+pub in-order : (c d : Call) → Interleaving (c ∷ []) (d ∷ []) (c ∷ d ∷ [])
+in-order c d = first (second end)
+
+pub other-order : (c d : Call) → Interleaving (c ∷ []) (d ∷ []) (d ∷ c ∷ [])
+other-order c d = second (first end)
+
 module _ (k : Book) (cs zs : List Call) (c d : Call) (h : independent c d ≡ true) where
   pub neighbours-book : bookAfter k (cs ++ (d ∷ c ∷ zs)) ≡ bookAfter k (cs ++ (c ∷ d ∷ zs))
-  unfolding interleave
-  neighbours-book = interleaves k .book (false ∷ []) cs (c ∷ []) (d ∷ []) zs (ones-independent c d h)
+  neighbours-book = interleaves k .book (other-order c d) (ones-independent c d h) cs zs
 
-  pub neighbours-answers : let j = bookAfter k cs in
-      answers k (cs ++ (d ∷ c ∷ zs)) ≡ answers k cs ++ (answer j d ∷ answer j c ∷ answers (next (next j c) d) zs)
-  unfolding interleave answers bookAfter
-  neighbours-answers = interleaves k .replies (false ∷ []) cs (c ∷ []) (d ∷ []) zs (ones-independent c d h)
+  -- the answers to all calls, with those to a and b straight after those to cs
+  abbrev answered : Call → Call → List Answer
+  answered a b = let j = bookAfter k cs in answers k cs ++ (answer j a ∷ answer j b ∷ answers (next (next j c) d) zs)
+
+  pub neighbours-answers : (answers k (cs ++ (c ∷ d ∷ zs)) ≡ answered c d) × (answers k (cs ++ (d ∷ c ∷ zs)) ≡ answered d c)
+  unfolding turns interleave answers bookAfter in-order other-order
+  neighbours-answers =
+      let i = ones-independent c d h in
+      (interleaves k .replies (in-order c d) i cs zs, interleaves k .replies (other-order c d) i cs zs)

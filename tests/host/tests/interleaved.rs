@@ -171,28 +171,30 @@ fn every_pair() {
         };
         calls.extend(lists.iter().map(|l| (number, list(l))));
     }
-    let (mut same, mut counts) = (0, 0);
+    let before = library(&sheet, &[]).left;
+    let (mut changing, mut counting) = (0, 0);
     for (k, (a, c)) in calls.iter().enumerate() {
         for (b, d) in &calls[..k] {
             let pair = [c.clone(), d.clone()];
-            let differs = order_counts(library, &sheet, &pair);
-            match a == b {
-                true => counts += differs as usize,
-                false => assert!(!differs, "{pair:?}"),
+            let counts = order_counts(library, &sheet, &pair);
+            if a == b {
+                counting += counts as usize;
+                continue;
             }
-            same += !differs as usize;
+            assert!(!counts, "{pair:?}");
+            changing += (library(&sheet, &pair).left != before) as usize;
         }
     }
-    println!("{same} pairs without a difference, {counts} of one batch with one");
+    println!("{changing} pairs change the sheet, of one batch the order of {counting} counts");
     assert_eq!(calls.len(), 5 * 27);
-    assert!(same >= 10 * 27 * 27 && counts >= 60);
+    assert!(changing >= 900 && counting >= 60);
 }
 
 /// The edits of two desks, of different batches.
 fn desks(rng: &mut Rng, sheet: &Sheet, most: u64) -> [Vec<Call>; 2] {
     let n = sheet.batches().len() as u64;
     // All batches, and two numbers without one.
-    let none = *rng.pick(&[0, n + 2, 201, 257, GREATEST]);
+    let none = *rng.pick(&[0, n + 2, n + 256, GREATEST]);
     let mut numbers: Vec<u64> = (1..=n + 1).chain([none]).collect();
     rng.shuffle(&mut numbers);
     // A few, so that a desk edits a batch more than once.
@@ -237,10 +239,14 @@ impl Day {
         let any = |rng: &mut Rng, sheet: &mut Sheet| {
             let count = rng.below(5);
             let call = |_| {
-                let call = match rng.below(8) {
+                let entries = *rng.pick(&[0, 200]);
+                let call = match rng.below(9) {
                     0 => Call::Review,
-                    1 => Call::Balance { entries: 200 },
-                    2 => Call::Settle { entries: 200 },
+                    1 => Call::Trial {
+                        level: rng.below(sheet.total() as u64 + 2),
+                    },
+                    2 => Call::Balance { entries },
+                    3 => Call::Settle { entries },
                     _ => cases::edit(rng, sheet),
                 };
                 second::apply(sheet, &call);
@@ -270,7 +276,7 @@ impl Day {
         [&self.before[..], &by_turns, &self.after].concat()
     }
 
-    /// What the desks are told one after the other, each without the other.
+    /// What each desk is told where the other makes no call.
     fn alone(&self, run: &impl Fn(&str, &[Call]) -> Outcome) -> [Vec<String>; 2] {
         self.desks.each_ref().map(|desk| {
             let outcome = run(&self.sheet, &[&self.before[..], desk].concat());
@@ -293,10 +299,7 @@ impl Day {
                 .map(|(_, line)| line.clone())
         };
         let apart = [0, 1].map(|desk| to(desk).collect::<Vec<_>>());
-        apart != self.alone(&run)
-            || told.lines[..start] != due.lines[..start]
-            || told.lines[end..] != due.lines[end..]
-            || told.left != due.left
+        apart != self.alone(&run) || told.lines[end..] != due.lines[end..] || told.left != due.left
     }
 }
 
@@ -500,22 +503,37 @@ const WRONG: [(&str, Wrong); 5] = [
     ),
 ];
 
+/// Each of them is told from a right one, by a pair of edits and by two desks.
 #[test]
 fn wrong_planners() {
-    let mut told = BTreeSet::new();
+    let mut told: [BTreeSet<&str>; 2] = Default::default();
     let mut rng = Rng::new(194);
     for _ in 0..3_000 {
         let draft = gen::draft(&mut rng, FEW.waiting());
         let (sheet, text) = (draft.sheet(), file(&draft));
         let pair = independent(&mut rng, &sheet);
+        let day = Day {
+            desks: desks(&mut rng, &sheet, 6),
+            sheet: text.clone(),
+            before: Vec::new(),
+            after: vec![Call::Review],
+        };
+        let turns = turns(&mut rng, &day.desks);
         assert!(!order_counts(planner(second::apply), &text, &pair));
+        assert!(!day.turns_count(planner(second::apply), &turns));
         for (name, wrong) in WRONG {
             if order_counts(planner(wrong), &text, &pair) {
-                told.insert(name);
+                told[0].insert(name);
+            }
+            if day.turns_count(planner(wrong), &turns) {
+                told[1].insert(name);
             }
         }
     }
     for (name, _) in WRONG {
-        assert!(told.contains(name), "not told: {name}");
+        assert!(
+            told.iter().all(|told| told.contains(name)),
+            "{name}: {told:?}"
+        );
     }
 }
