@@ -1,6 +1,6 @@
 -- Document 01, "Cases": P1 to P10 in one table, with one theorem over it. The rows from 11 on are more of document 01's cases
 -- and ours: each tells a wrong rule from the right one. Rows 20 to 26 are C-11 to C-17 of
--- document 02, and row 27 is C-19.
+-- document 02, row 27 is C-19, and row 28 is C-20.
 use Prim.Native.Nat.{ℕ}
 use Prim.Native.String.{String}
 use mathlib.Core.Path.{_≡_, refl}
@@ -8,8 +8,8 @@ use mathlib.Core.Bool.{Bool, true, false}
 use mathlib.Core.List.{List, [], _∷_, map, _++_}
 use lib.ListN.{length, replicate}
 use Rattle.rules.specs.Fold.{_and_, _or_, mem, every, sumTo, most, maxTo, orElse, firstTo, anyTo, allTo, lesser, leastTo, greater, greatestTo, thoseTo, listTo}
-use Rattle.rules.specs.Refusal.{malformed, badSize, badLength, badList, badPlace, badCalibration, noBatch, hasStarted, levelAbove, bufferShort}
-use Rattle.rules.specs.Sheet.{Book, Batch, waiting, begun, isBatch, goodInstruments, goodMinutes, goodCalibration, goodCalibrations, isInstrument, distinct, goodList, goodBatch, sound}
+use Rattle.rules.specs.Refusal.{malformed, badSize, badLength, badList, badPlace, badCalibration, badOrder, noBatch, hasStarted, levelAbove, bufferShort}
+use Rattle.rules.specs.Sheet.{Book, Batch, waiting, begun, isBatch, goodInstruments, goodMinutes, goodCalibration, goodCalibrations, isInstrument, distinct, goodList, ascendingFrom, ascending, goodBatch, sound}
 use Rattle.rules.specs.Field.{Field, value, blank, fault, digits, loneZero, blanks, field}
 use Rattle.rules.specs.Read.{Reading, accepted, refusedAt, numberAt, placeAt, endOfLine, headLine, calibrationsAt, calibrationLine, markAt, instrumentsAt, goodPlace, batchLine, batchLines, linesAfter, read}
 use Rattle.rules.specs.Render.{columns, fields, mark, Given, numbered, leftBlank, Described, Description, renderBatches, render, batchWithinLimits, withinLimits}
@@ -127,8 +127,8 @@ unsettled =
     ("     2     4"
     ∷ "     0     0"
     ∷ "     2     2     0     1     2"
-    ∷ "     4     1     0     2     2     1"
-    ∷ "     5     1     0     2     2     1"
+    ∷ "     4     1     0     2     1     2"
+    ∷ "     5     1     0     2     1     2"
     ∷ "     2     2     0     2     1     2"
     ∷ [])
 
@@ -138,9 +138,9 @@ threeWays =
     lines
     ("     2     3"
     ∷ "     0     0"
-    ∷ "    10     1     0     2     2     1"
-    ∷ "    20     0     0     2     2     1"
-    ∷ "    30           0     2     2     1"
+    ∷ "    10     2     0     2     1     2"
+    ∷ "    20     0     0     2     1     2"
+    ∷ "    30           0     2     1     2"
     ∷ [])
 
 -- all lengths are multiples of 2, and the plan is as late as that allows
@@ -195,13 +195,13 @@ slowStart = lines ("     2     1" ∷ "    10    40" ∷ "    20     2     0    
 abbrev idle : List ℕ
 idle = lines ("     2     0" ∷ "    30    20" ∷ [])
 
--- P1, but batch 1 has started on instrument 1, the second of its list, and cannot leave it
+-- P1, but batch 1 has started, and cannot leave its instrument
 abbrev loaded : List ℕ
 loaded =
     lines
     ("     2     3"
     ∷ "     0     0"
-    ∷ "    30     1     1     2     2     1"
+    ∷ "    30     1     1     2     1     2"
     ∷ "    20     1     0     1     1"
     ∷ "    10     1     0     2     1     2"
     ∷ [])
@@ -211,7 +211,7 @@ abbrev loadedBook : Book
 loadedBook = record {
   m = 2;
   calibrations = 0 ∷ 0 ∷ [];
-  batches = begun (waiting 30 (2 ∷ 1 ∷ []) 1) ∷ waiting 20 (1 ∷ []) 1 ∷ waiting 10 (1 ∷ 2 ∷ []) 1 ∷ [];
+  batches = begun (waiting 30 (1 ∷ 2 ∷ []) 1) ∷ waiting 20 (1 ∷ []) 1 ∷ waiting 10 (1 ∷ 2 ∷ []) 1 ∷ [];
 }
 
 -- three that have started on one instrument, and could have run on three
@@ -228,6 +228,14 @@ stuck =
 -- a sheet of two instruments and one batch, whose line is given here
 abbrev single : String → List ℕ
 single a = lines ("     2     1" ∷ "     0     0" ∷ a ∷ [])
+
+-- a batch that has started on the second instrument of its list
+abbrev onSecond : List ℕ
+onSecond = single "    10     2     1     2     1     2"
+
+-- a sheet of three instruments and two batches, the second of which has this line
+abbrev onThree : String → List ℕ
+onThree a = lines ("     3     2" ∷ "     0     0     0" ∷ "    20     2     0     2     2     3" ∷ a ∷ [])
 
 -- ---- what is asked, and what is said
 
@@ -381,15 +389,15 @@ threeGiven = record {
   m = 2;
   calibrations = 0 ∷ 0 ∷ [];
   batches =
-      describedOf 10 (numbered 1) (2 ∷ 1 ∷ [])
-      ∷ describedOf 20 (numbered 0) (2 ∷ 1 ∷ [])
-      ∷ describedOf 30 leftBlank (2 ∷ 1 ∷ [])
+      describedOf 10 (numbered 2) (1 ∷ 2 ∷ [])
+      ∷ describedOf 20 (numbered 0) (1 ∷ 2 ∷ [])
+      ∷ describedOf 30 leftBlank (1 ∷ 2 ∷ [])
       ∷ [];
 }
 
 -- a file like threeWays, but for the columns of its lines 3 and 4 given here
 abbrev likeThreeWays : String → String → List ℕ
-likeThreeWays a b = lines ("     2     3" ∷ "     0     0" ∷ a ∷ b ∷ "    30     2     0     2     2     1" ∷ [])
+likeThreeWays a b = lines ("     2     3" ∷ "     0     0" ∷ a ∷ b ∷ "    30     1     0     2     1     2" ∷ [])
 
 table : List Row
 table =
@@ -425,8 +433,8 @@ table =
     ∷ row 11 (reading (lines ("     2     1" ∷ "     0     0" ∷ "    10     3     0     2     1     2 " ∷ []))) (readingSaid (refusedAt malformed 3))
     ∷ row 11 (reading (lines ("     2     1" ∷ "     0     0" ∷ "    10     3     0     2     1     2" ∷ "x" ∷ []))) (readingSaid (refusedAt badPlace 3))
     ∷ row 11 (reading (lines ("     2     1" ∷ "     0     0" ∷ "    10     2     0     1     1" ∷ []))) (readingSaid (refusedAt badPlace 3))
-    ∷ row 11 (reading (lines ("     2     1" ∷ "     0     0" ∷ "    10     0     0     2     2     1" ∷ [])))
-    (readingSaid (accepted (record { m = 2; calibrations = 0 ∷ 0 ∷ []; batches = waiting 10 (2 ∷ 1 ∷ []) 2 ∷ [] })))
+    ∷ row 11 (reading (lines ("     2     1" ∷ "     0     0" ∷ "    10     0     0     1     2" ∷ [])))
+    (readingSaid (accepted (record { m = 2; calibrations = 0 ∷ 0 ∷ []; batches = waiting 10 (2 ∷ []) 2 ∷ [] })))
     ∷ row 12 (writing p1) (fileSaid p1)
     -- more of trials, balance and settle
     ∷ row 13 (calling alone (trying 0 ∷ trying 20 ∷ trying 30 ∷ trying 31 ∷ []))
@@ -476,6 +484,7 @@ table =
     ∷ editing (add 0 [])
     ∷ editing (add 7 (3 ∷ []))
     ∷ editing (add 7 (2 ∷ 1 ∷ []))
+    ∷ editing (add 7 (2 ∷ []))
     ∷ reviewing
     ∷ []))
     (answered
@@ -490,6 +499,7 @@ table =
     ∷ done
     ∷ refused badLength
     ∷ refused badList
+    ∷ refused badOrder
     ∷ done
     ∷ reviewSaid (30 ∷ 7 ∷ []) 30 0
     ∷ []))
@@ -512,7 +522,7 @@ table =
     (readingSaid (accepted (record {
       m = 2;
       calibrations = 0 ∷ 0 ∷ [];
-      batches = waiting 10 (2 ∷ 1 ∷ []) 1 ∷ waiting 20 (2 ∷ 1 ∷ []) 2 ∷ waiting 30 (2 ∷ 1 ∷ []) 2 ∷ [];
+      batches = waiting 10 (1 ∷ 2 ∷ []) 2 ∷ waiting 20 (1 ∷ 2 ∷ []) 1 ∷ waiting 30 (1 ∷ 2 ∷ []) 1 ∷ [];
     })))
     ∷ row 20 (rendering threeGiven) (fileSaid threeWays)
     ∷ row 20 (reading (lines ("           0" ∷ []))) (readingSaid (refusedAt malformed 1))
@@ -533,14 +543,14 @@ table =
     (compared (record { multiples = true; equal = true; permitted = true; finish = 12; other = 12; close = true }))
     ∷ row 21 (calling equals (balancing 3 ∷ []))
     (answered (balanceSaid 12 9 6 2 2 (1 ∷ 2 ∷ []) (2 ∷ 1 ∷ 1 ∷ []) (went 1 1 2 ∷ []) ∷ []))
-    -- a sheet written back: every place as it is, lists in their order; another file only where a place was left open
-    ∷ row 22 (writing threeWays) (fileSaid (likeThreeWays "    10     1     0     2     2     1" "    20     2     0     2     2     1"))
-    ∷ row 22 (matching threeGiven (likeThreeWays "    10     1     0     2     2     1" "    20     2     0     2     2     1")) (matched true)
-    ∷ row 22 (matching threeGiven (likeThreeWays "    10     2     0     2     2     1" "    20     2     0     2     2     1")) (matched false)
-    ∷ row 22 (matching threeGiven (likeThreeWays "    10     1     0     2     2     1" "    20     2     0     2     1     2")) (matched false)
-    ∷ row 22 (matching threeGiven (likeThreeWays "    10     1     0     2     2     1" "    20     2     0     2     2     1 ")) (matched false)
+    -- a sheet written back: every place as it is; another file only where a place was left open
+    ∷ row 22 (writing threeWays) (fileSaid (likeThreeWays "    10     2     0     2     1     2" "    20     1     0     2     1     2"))
+    ∷ row 22 (matching threeGiven (likeThreeWays "    10     2     0     2     1     2" "    20     1     0     2     1     2")) (matched true)
+    ∷ row 22 (matching threeGiven (likeThreeWays "    10     1     0     2     1     2" "    20     1     0     2     1     2")) (matched false)
+    ∷ row 22 (matching threeGiven (likeThreeWays "    10     2     0     2     1     2" "    20     1     0     2     2     1")) (matched false)
+    ∷ row 22 (matching threeGiven (likeThreeWays "    10     2     0     2     1     2" "    20     1     0     2     1     2 ")) (matched false)
     -- the sheet that a journal leaves, a refused call among its calls; an empty journal; a short buffer; bad files
-    ∷ row 22 (leaving p1 (lines ("     7     3" ∷ "     8     3" ∷ "     4     2     2" ∷ "     2     2" ∷ "     1    15     2     2     1" ∷ [])) (replicate 138 1))
+    ∷ row 22 (leaving p1 (lines ("     7     3" ∷ "     8     3" ∷ "     4     2     2" ∷ "     2     2" ∷ "     1    15     2     1     2" ∷ [])) (replicate 138 1))
     (hosted (record {
       refusal = 0;
       line = 0;
@@ -551,7 +561,7 @@ table =
           ∷ "     0     0"
           ∷ "    30     2     0     2     1     2"
           ∷ "    10     1     0     2     1     2"
-          ∷ "    15     2     0     2     2     1"
+          ∷ "    15     1     0     2     1     2"
           ∷ [])
           ++ (1 ∷ []);
     }))
@@ -613,7 +623,7 @@ table =
     ∷ row 23 (filing [] (balancing 0) [])
     (filedSaid (record { hosted = record { refusal = 1; line = 1; length = 0; buffer = [] }; answer = refused malformed }))
     -- a list's marks, and whether it lies in a group: it does, all but its last instrument does, nothing is listed
-    ∷ row 24 (confining (24 ∷ 4 ∷ 5 ∷ []) (4 ∷ 5 ∷ 6 ∷ 24 ∷ []))
+    ∷ row 24 (confining (4 ∷ 5 ∷ 24 ∷ []) (4 ∷ 5 ∷ 6 ∷ 24 ∷ []))
     (lies (0 ∷ 0 ∷ 0 ∷ 1 ∷ 1 ∷ 0 ∷ 0 ∷ 0 ∷ 0 ∷ 0 ∷ 0 ∷ 0 ∷ 0 ∷ 0 ∷ 0 ∷ 0 ∷ 0 ∷ 0 ∷ 0 ∷ 0 ∷ 0 ∷ 0 ∷ 0 ∷ 1 ∷ []) true)
     ∷ row 24 (confining (4 ∷ 24 ∷ []) (4 ∷ 5 ∷ 6 ∷ []))
     (lies (0 ∷ 0 ∷ 0 ∷ 1 ∷ 0 ∷ 0 ∷ 0 ∷ 0 ∷ 0 ∷ 0 ∷ 0 ∷ 0 ∷ 0 ∷ 0 ∷ 0 ∷ 0 ∷ 0 ∷ 0 ∷ 0 ∷ 0 ∷ 0 ∷ 0 ∷ 0 ∷ 1 ∷ []) false)
@@ -664,8 +674,8 @@ table =
     ∷ row 25 (comparing slowStart 10 (1 ∷ 2 ∷ 2 ∷ []))
     (compared (record { multiples = true; equal = false; permitted = false; finish = 40; other = 50; close = true }))
     -- the mark: 0 or 1, judged after the length and before the count
-    ∷ row 26 (reading (single "    10     1     1     2     2     1"))
-    (readingSaid (accepted (record { m = 2; calibrations = 0 ∷ 0 ∷ []; batches = record { minutes = 10; list = 2 ∷ 1 ∷ []; place = 1; started = true } ∷ [] })))
+    ∷ row 26 (reading onSecond)
+    (readingSaid (accepted (record { m = 2; calibrations = 0 ∷ 0 ∷ []; batches = begun (waiting 10 (1 ∷ 2 ∷ []) 2) ∷ [] })))
     ∷ row 26 (reading (single "    10     1     2     9     1")) (readingSaid (refusedAt malformed 3))
     ∷ row 26 (reading (single "    10     1     1     9     1")) (readingSaid (refusedAt badList 3))
     ∷ row 26 (reading (single "  1441     1     2     1     1")) (readingSaid (refusedAt badLength 3))
@@ -681,13 +691,13 @@ table =
     ∷ row 26 (reading (single "    10     1     1     1")) (readingSaid (refusedAt malformed 3))
     -- the file has the whole list, and the mark is no place that may be left open
     ∷ row 26 (writing loaded) (fileSaid loaded)
-    ∷ row 26 (matching threeGiven (likeThreeWays "    10     1     0     2     2     1" "    20     2     1     2     2     1")) (matched false)
+    ∷ row 26 (matching threeGiven (likeThreeWays "    10     2     0     2     1     2" "    20     1     1     2     1     2")) (matched false)
     ∷ row 26 (rendering (record {
       m = 2;
       calibrations = 0 ∷ 0 ∷ [];
-      batches = record { minutes = 10; list = 2 ∷ 1 ∷ []; place = numbered 1; started = true } ∷ [];
+      batches = record { minutes = 10; list = 1 ∷ 2 ∷ []; place = numbered 2; started = true } ∷ [];
     }))
-    (fileSaid (single "    10     1     1     2     2     1"))
+    (fileSaid onSecond)
     -- 6 before 11, and 11 before 4 and 5
     ∷ row 26 (calling loaded
     (editing (withdraw 4)
@@ -721,8 +731,8 @@ table =
     ∷ editing (move 3 2)
     ∷ editing (withdraw 2)
     ∷ editing (withdraw 2)
-    ∷ editing (add 7 (2 ∷ 1 ∷ []))
-    ∷ editing (move 3 1)
+    ∷ editing (add 7 (1 ∷ 2 ∷ []))
+    ∷ editing (move 3 2)
     ∷ editing (requalify 3 (2 ∷ []))
     ∷ reviewing
     ∷ editing (withdraw 3)
@@ -752,6 +762,10 @@ table =
     (compared (record { multiples = true; equal = false; permitted = true; finish = 50; other = 50; close = true }))
     ∷ row 26 (comparing loaded 10 (2 ∷ 1 ∷ 1 ∷ []))
     (compared (record { multiples = true; equal = false; permitted = false; finish = 50; other = 30; close = true }))
+    ∷ row 26 (comparing onSecond 10 (2 ∷ []))
+    (compared (record { multiples = true; equal = true; permitted = true; finish = 10; other = 10; close = true }))
+    ∷ row 26 (comparing onSecond 10 (1 ∷ []))
+    (compared (record { multiples = true; equal = true; permitted = false; finish = 10; other = 10; close = true }))
     ∷ row 26 (comparing stuck 20 (1 ∷ 2 ∷ 3 ∷ []))
     (compared (record { multiples = true; equal = true; permitted = false; finish = 60; other = 20; close = false }))
     -- as a line of a journal; a line without the number; a start keeps place and list
@@ -819,6 +833,63 @@ table =
     ∷ row 27 (mixing (true ∷ false ∷ false ∷ true ∷ []) (1 ∷ 2 ∷ 3 ∷ []) (4 ∷ 5 ∷ 6 ∷ [])) (mixed (1 ∷ 4 ∷ 5 ∷ 2 ∷ 3 ∷ 6 ∷ []))
     ∷ row 27 (mixing (false ∷ true ∷ true ∷ false ∷ []) (1 ∷ []) (4 ∷ 5 ∷ 6 ∷ [])) (mixed (4 ∷ 1 ∷ 5 ∷ 6 ∷ []))
     ∷ row 27 (mixing (false ∷ false ∷ []) (1 ∷ 2 ∷ []) (4 ∷ [])) (mixed (4 ∷ 1 ∷ 2 ∷ []))
+    -- lists ascend; a place not given is the lowest of its list
+    ∷ row 28 (reading (onThree "    10     0     0     3     1     2     3"))
+    (readingSaid (accepted (record { m = 3; calibrations = 0 ∷ 0 ∷ 0 ∷ []; batches = waiting 20 (2 ∷ 3 ∷ []) 2 ∷ waiting 10 (1 ∷ 2 ∷ 3 ∷ []) 1 ∷ [] })))
+    ∷ row 28 (reading (onThree "    10     1     0     2     2     1")) (readingSaid (refusedAt badOrder 4))
+    ∷ row 28 (reading (onThree "    10     1     0     3     1     3     2")) (readingSaid (refusedAt badOrder 4))
+    -- judged after every field of the list: equal neighbours, a repeat, an instrument too many and a field without a number come before it
+    ∷ row 28 (reading (onThree "    10     1     0     2     1     1")) (readingSaid (refusedAt badList 4))
+    ∷ row 28 (reading (onThree "    10     1     0     3     3     1     1")) (readingSaid (refusedAt badList 4))
+    ∷ row 28 (reading (onThree "    10     1     0     3     3     1     3")) (readingSaid (refusedAt badList 4))
+    ∷ row 28 (reading (onThree "    10     1     0     3     2     1     4")) (readingSaid (refusedAt badList 4))
+    ∷ row 28 (reading (onThree "    10     1     0     3     2     1     x")) (readingSaid (refusedAt malformed 4))
+    ∷ row 28 (reading (onThree "    10     1     0     3     2     1")) (readingSaid (refusedAt malformed 4))
+    -- so do the line's other fields
+    ∷ row 28 (reading (onThree "  1441     1     0     2     2     1")) (readingSaid (refusedAt badLength 4))
+    ∷ row 28 (reading (onThree "    10     1     2     2     2     1")) (readingSaid (refusedAt malformed 4))
+    ∷ row 28 (reading (onThree "    10     1     0     4     2     1")) (readingSaid (refusedAt badList 4))
+    -- the LF and the place come after it
+    ∷ row 28 (reading (onThree "    10     1     0     2     2     1 ")) (readingSaid (refusedAt badOrder 4))
+    ∷ row 28 (reading (onThree "    10     1     0     2     2     1     3")) (readingSaid (refusedAt badOrder 4))
+    ∷ row 28 (reading (onThree "    10     3     0     2     2     1")) (readingSaid (refusedAt badOrder 4))
+    ∷ row 28 (reading (onThree "    10           1     2     2     1")) (readingSaid (refusedAt badOrder 4))
+    ∷ row 28 (reading (onThree "    10     3     0     2     1     2 ")) (readingSaid (refusedAt malformed 4))
+    ∷ row 28 (reading (onThree "    10     3     0     2     1     2")) (readingSaid (refusedAt badPlace 4))
+    -- edits: 3 and 4 before it, and 6, 11 and 4; a list with one instrument has no order
+    ∷ row 28 (calling (onThree "    10     1     1     2     1     2")
+    (editing (add 0 (2 ∷ 1 ∷ []))
+    ∷ editing (add 5 (2 ∷ 1 ∷ 2 ∷ []))
+    ∷ editing (add 5 (2 ∷ 1 ∷ 4 ∷ []))
+    ∷ editing (add 5 (2 ∷ 2 ∷ []))
+    ∷ editing (add 5 (1 ∷ 3 ∷ 2 ∷ []))
+    ∷ editing (requalify 3 (2 ∷ 1 ∷ []))
+    ∷ editing (requalify 2 (2 ∷ 1 ∷ []))
+    ∷ editing (requalify 1 (2 ∷ 1 ∷ 2 ∷ []))
+    ∷ editing (requalify 1 (3 ∷ 2 ∷ []))
+    ∷ editing (requalify 1 (3 ∷ []))
+    ∷ editing (requalify 1 (1 ∷ 2 ∷ []))
+    ∷ editing (add 5 (2 ∷ 3 ∷ []))
+    ∷ reviewing
+    ∷ []))
+    (answered
+    (refused badLength
+    ∷ refused badList
+    ∷ refused badList
+    ∷ refused badList
+    ∷ refused badOrder
+    ∷ refused noBatch
+    ∷ refused hasStarted
+    ∷ refused badList
+    ∷ refused badOrder
+    ∷ done
+    ∷ done
+    ∷ done
+    ∷ reviewSaid (30 ∷ 5 ∷ 0 ∷ []) 30 1
+    ∷ []))
+    -- as lines of a journal
+    ∷ row 28 (running p1 (lines ("     1     5     2     2     1" ∷ "     3     3     2     2     1" ∷ "     3     3     1     2" ∷ [])) (replicate 21 1))
+    (hosted (record { refusal = 0; line = 0; length = 21; buffer = lines ("    13" ∷ "    13" ∷ "     0" ∷ []) }))
     ∷ []
 
 abbrev asked : List Row → List Said
@@ -829,5 +900,5 @@ said t = map (λ (r : Row). r .says) t
 
 -- the rules say what the table says
 cases : asked table ≡ said table
-unfolding table bytes lines _and_ _or_ mem every sumTo most maxTo orElse firstTo anyTo allTo lesser leastTo greater greatestTo thoseTo listTo isBatch goodInstruments goodMinutes goodCalibration goodCalibrations isInstrument distinct goodList goodBatch sound digits loneZero blanks field numberAt placeAt endOfLine headLine calibrationsAt calibrationLine markAt instrumentsAt goodPlace batchLine batchLines linesAfter read columns fields renderBatches render written openInBatches openColumns alike batchWithinLimits withinLimits kept edit calibrationsTo busy load makespan longest total permitted elsewhere improvesAt improves review mover target moved squares settleBy settle atLevel underloaded overloaded unplaced machineArc jobArc liftOver pushOr deed jobDeed machineDeed someUnderloaded actMachine actJob act stepsBy liftBound pushBound endedBy overflows reach reachBy closure group trial searchBy balance within confined share lowerBound marksOf multiples equalLengths closeTo P.balanced P.rested P.plan records moveNumbers answer next bookAfter answers independent allIndependent interleave intoBuffer batchListing listing program host numbersAt listAt addAt withdrawAt requalifyAt moveAt startAt trialAt balanceAt settleAt callAt callLine linesBy journal answerLines runHost writeHost filed
+unfolding table bytes lines _and_ _or_ mem every sumTo most maxTo orElse firstTo anyTo allTo lesser leastTo greater greatestTo thoseTo listTo isBatch goodInstruments goodMinutes goodCalibration goodCalibrations isInstrument distinct goodList ascendingFrom ascending goodBatch sound digits loneZero blanks field numberAt placeAt endOfLine headLine calibrationsAt calibrationLine markAt instrumentsAt goodPlace batchLine batchLines linesAfter read columns fields renderBatches render written openInBatches openColumns alike batchWithinLimits withinLimits kept edit calibrationsTo busy load makespan longest total permitted elsewhere improvesAt improves review mover target moved squares settleBy settle atLevel underloaded overloaded unplaced machineArc jobArc liftOver pushOr deed jobDeed machineDeed someUnderloaded actMachine actJob act stepsBy liftBound pushBound endedBy overflows reach reachBy closure group trial searchBy balance within confined share lowerBound marksOf multiples equalLengths closeTo P.balanced P.rested P.plan records moveNumbers answer next bookAfter answers independent allIndependent interleave intoBuffer batchListing listing program host numbersAt listAt addAt withdrawAt requalifyAt moveAt startAt trialAt balanceAt settleAt callAt callLine linesBy journal answerLines runHost writeHost filed
 cases = refl

@@ -1,13 +1,13 @@
--- Document 01, "The sheet" and "Refusals": the edits, with their checks in order. Document 02, C-17: starting a batch, and what a started
--- one refuses.
+-- Document 01, "The sheet" and "Refusals": the edits, with their checks in order. Document 02: starting a batch, and what a started one
+-- refuses (C-17); lists ascend (C-20).
 use Prim.Native.Nat.{ℕ, zero, suc, _-_}
 use mathlib.Core.Bool.{Bool, true, false, not}
 use mathlib.Core.List.{List, [], _∷_, _++_}
 use lib.ListN.{set}
 use lib.Dec.{ltb}
 use Rattle.rules.specs.Fold.{pick, mem}
-use Rattle.rules.specs.Refusal.{Refusal, badLength, badList, badPlace, noBatch, sheetFull, hasStarted}
-use Rattle.rules.specs.Sheet.{Book, Batch, waiting, withPlace, withList, begun, size, batch, isBatch, head, maxBatches, goodMinutes, goodList}
+use Rattle.rules.specs.Refusal.{Refusal, badLength, badList, badPlace, badOrder, noBatch, sheetFull, hasStarted}
+use Rattle.rules.specs.Sheet.{Book, Batch, waiting, withPlace, withList, begun, size, batch, isBatch, head, maxBatches, goodMinutes, goodList, ascending}
 
 pub data Edit : Type 0 where
   -- length, list
@@ -51,16 +51,20 @@ withBatch k b c = withBatches k (set (k .batches) (b - 1) c)
 abbrev pub ifWaiting : Book → ℕ → Edited → Edited
 ifWaiting k b o = unless (isBatch k b) noBatch (unless (not (batch k b .started)) hasStarted o)
 
+-- go on where l is a list for a batch on m instruments, and ascends
+abbrev pub ifListed : ℕ → List ℕ → Edited → Edited
+ifListed m l o = unless (goodList m l) badList (unless (ascending l) badOrder o)
+
 unfoldable pub edit : Book → Edit → Edited
 edit k (add t l) =
     unless (ltb (size k) maxBatches) sheetFull
     (unless (goodMinutes t) badLength
-    (unless (goodList (k .m) l) badList
+    (ifListed (k .m) l
     (edited (withBatches k (k .batches ++ (waiting t l (head l) ∷ []))))))
 edit k (withdraw b) = ifWaiting k b (edited (withBatches k (without (k .batches) (b - 1))))
 edit k (requalify b l) =
     ifWaiting k b
-    (unless (goodList (k .m) l) badList
+    (ifListed (k .m) l
     (edited (withBatch k b (withPlace (withList (batch k b) l) (kept (batch k b .place) l)))))
 edit k (move b i) =
     ifWaiting k b

@@ -1,13 +1,13 @@
 -- Document 01, "The sheet": reading goes from the front, and the first fault met decides. Document 02: line 2 has the calibrations (C-16),
--- and a batch line has a mark of whether the batch has started (C-17).
+-- a batch line has a mark of whether the batch has started (C-17), and its list ascends (C-20).
 use Prim.Native.Nat.{ℕ, zero, suc}
 use mathlib.Core.Bool.{Bool, true, false, not}
 use mathlib.Core.List.{List, [], _∷_, _++_}
 use lib.ListN.{drop}
 use lib.Dec.{leb, eqb}
 use Rattle.rules.specs.Fold.{_and_, _or_, mem}
-use Rattle.rules.specs.Refusal.{Refusal, malformed, badSize, badLength, badList, badPlace, badCalibration, number}
-use Rattle.rules.specs.Sheet.{Book, Batch, maxBatches, goodInstruments, goodMinutes, goodCalibration, isInstrument, head}
+use Rattle.rules.specs.Refusal.{Refusal, malformed, badSize, badLength, badList, badPlace, badCalibration, badOrder, number}
+use Rattle.rules.specs.Sheet.{Book, Batch, maxBatches, goodInstruments, goodMinutes, goodCalibration, isInstrument, ascending, head}
 use Rattle.rules.specs.Field.{Field, value, blank, fault, field, fieldWidth}
 
 -- ---- a part of a sheet: what it gives, with the rest of the bytes, or a refusal
@@ -101,7 +101,7 @@ placeOr (suc p) l = suc p
 unfoldable pub goodPlace : Bool → ℕ → List ℕ → Bool
 goodPlace s p l = (not s and eqb p 0) or mem p l
 
--- a field's range is judged before the next field; the place is judged last, after the line's LF
+-- a field's range is judged before the next field, the list's order after its last, and the place after the line's LF
 unfoldable pub batchLine : ℕ → List ℕ → Part Batch
 batchLine m r =
     andThen (numberAt r) (λ t r₁.
@@ -111,9 +111,10 @@ batchLine m r =
     andThen (numberAt r₃) (λ c r₄.
     orRefuse (leb 1 c and leb c m) badList
     (andThen (instrumentsAt m c [] r₄) (λ l r₅.
-    endOfLine r₅ (λ r₆.
+    orRefuse (ascending l) badOrder
+    (endOfLine r₅ (λ r₆.
     orRefuse (goodPlace s p l) badPlace
-    (gives (record { minutes = t; list = l; place = placeOr p l; started = s }) r₆)))))))))
+    (gives (record { minutes = t; list = l; place = placeOr p l; started = s }) r₆))))))))))
 
 -- ---- a whole sheet: its book, or a refusal with its line
 

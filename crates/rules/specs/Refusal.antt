@@ -10,6 +10,8 @@ pub data Refusal : Type 0 where
   badPlace : Refusal
   -- document 02, C-16
   badCalibration : Refusal
+  -- document 02, C-20
+  badOrder : Refusal
   -- whoever exported the worklist; document 02, C-18
   badWorklist : Refusal
   -- whoever edits
@@ -35,3 +37,4 @@ number bufferShort = 9
 number badCalibration = 10
 number hasStarted = 11
 number badWorklist = 12
+number badOrder = 13

@@ -6,7 +6,7 @@ use mathlib.Core.List.{List, [], _∷_, _++_, map}
 use lib.ListN.{length, replicate}
 use lib.Dec.{leb, ltb}
 use Rattle.rules.specs.Fold.{_and_, pick, every}
-use Rattle.rules.specs.Sheet.{Book, Batch, maxBatches, goodInstruments, goodMinutes, goodCalibrations, goodList}
+use Rattle.rules.specs.Sheet.{Book, Batch, maxBatches, goodInstruments, goodMinutes, goodCalibrations, goodList, ascending}
 use Rattle.rules.specs.Field.{fieldWidth}
 use Rattle.rules.specs.Read.{placeOr, goodPlace}
 
@@ -67,7 +67,10 @@ render d = line (d .m ∷ length (d .batches) ∷ []) ++ (line (d .calibrations)
 -- a description within the limits: as a sound book, but the place of a batch that has not started may be 0 or blank
 unfoldable pub batchWithinLimits : ℕ → Described → Bool
 batchWithinLimits m b =
-    goodMinutes (b .minutes) and goodList m (b .list) and goodPlace (b .started) (givenNumber (b .place)) (b .list)
+    goodMinutes (b .minutes)
+    and goodList m (b .list)
+    and ascending (b .list)
+    and goodPlace (b .started) (givenNumber (b .place)) (b .list)
 
 unfoldable pub withinLimits : Description → Bool
 withinLimits d =

@@ -1,15 +1,17 @@
--- Document 02, C-13: a sheet written back to a file, and where that may differ from the file it was read from.
+-- Document 02, C-13: a sheet written back to a file, and where that may differ from the file it was read from. C-20: when two sheets have
+-- the same contents.
 use Prim.Native.Nat.{ℕ}
+use mathlib.Core.Path.{_≡_}
 use mathlib.Core.Bool.{Bool, true, false}
 use mathlib.Core.List.{List, [], _∷_, _++_}
 use lib.ListN.{length, replicate}
 use lib.Dec.{eqb}
-use Rattle.rules.specs.Fold.{_and_, _or_}
-use Rattle.rules.specs.Sheet.{Book}
+use Rattle.rules.specs.Fold.{_and_, _or_, mem}
+use Rattle.rules.specs.Sheet.{Book, Batch, size, batch}
 use Rattle.rules.specs.Field.{fieldWidth}
 use Rattle.rules.specs.Render.{Given, givenNumber, mark, Described, Description, line, render, described}
 
--- the file of a book: each list in its order, each place as the instrument where the batch stands
+-- the file of a book: each place as the instrument where the batch stands
 unfoldable pub written : Book → List ℕ
 written k = render (described k)
 
@@ -41,3 +43,19 @@ alike [] [] (y ∷ u) = false
 alike [] (x ∷ s) u = false
 alike (t ∷ ts) [] u = false
 alike (t ∷ ts) (x ∷ s) [] = false
+
+-- ---- contents
+
+-- two batches with the same contents: a list counts by the instruments it names, and not by their order
+pub record SameBatch (a b : Batch) : Type 0 where
+  pub minutes : a .minutes ≡ b .minutes
+  pub place : a .place ≡ b .place
+  pub started : a .started ≡ b .started
+  pub qualified : (i : ℕ) → mem i (a .list) ≡ mem i (b .list)
+
+-- two books with the same contents
+pub record SameContents (j k : Book) : Type 0 where
+  pub instruments : j .m ≡ k .m
+  pub calibrations : j .calibrations ≡ k .calibrations
+  pub count : size j ≡ size k
+  pub batches : (b : ℕ) → SameBatch (batch j b) (batch k b)

@@ -1,5 +1,5 @@
 -- Document 01, "The sheet" and "Runs": the limits, the book that says what a sheet holds, and when a book is sound. Document 02: the
--- calibrations (C-16), and whether a batch has started (C-17).
+-- calibrations (C-16), whether a batch has started (C-17), and lists that ascend (C-20).
 use Prim.Native.Nat.{ℕ, zero, suc}
 use mathlib.Core.Bool.{Bool, true, false, not}
 use mathlib.Core.List.{List, [], _∷_}
@@ -23,8 +23,7 @@ maxCalibration = 240
 
 -- ---- the book
 
--- a batch: its length in minutes, the instruments that may run it in the order given, the instrument it is on, and whether it has started
--- there
+-- a batch: its length in minutes, the instruments that may run it, the instrument it is on, and whether it has started there
 pub record Batch : Type 0 where
   pub minutes : ℕ
   pub list : List ℕ
@@ -102,8 +101,17 @@ distinct (x ∷ xs) = not (mem x xs) and distinct xs
 unfoldable pub goodList : ℕ → List ℕ → Bool
 goodList m l = leb 1 (length l) and leb (length l) m and every (isInstrument m) l and distinct l
 
+-- none of l is smaller than the one before it; p is before the first
+unfoldable pub ascendingFrom : ℕ → List ℕ → Bool
+ascendingFrom p [] = true
+ascendingFrom p (x ∷ xs) = leb p x and ascendingFrom x xs
+
+-- 0 is before the first, and no number is smaller than that
+unfoldable pub ascending : List ℕ → Bool
+ascending l = ascendingFrom 0 l
+
 unfoldable pub goodBatch : ℕ → Batch → Bool
-goodBatch m b = goodMinutes (b .minutes) and goodList m (b .list) and mem (b .place) (b .list)
+goodBatch m b = goodMinutes (b .minutes) and goodList m (b .list) and ascending (b .list) and mem (b .place) (b .list)
 
 -- what every sheet's book meets: all limits, and each batch on an instrument of its list
 unfoldable pub sound : Book → Bool

@@ -5,7 +5,7 @@ use mathlib.Core.Path.{_≡_, refl}
 use mathlib.Core.List.{List, [], _∷_, _++_, map}
 use lib.ListN.{replicate}
 use Rattle.rules.specs.Fold.{_and_, _or_, mem, every}
-use Rattle.rules.specs.Sheet.{goodInstruments, goodMinutes, goodCalibration, goodCalibrations, isInstrument, distinct, goodList}
+use Rattle.rules.specs.Sheet.{goodInstruments, goodMinutes, goodCalibration, goodCalibrations, isInstrument, distinct, goodList, ascendingFrom, ascending}
 use Rattle.rules.specs.Field.{digits, loneZero, blanks, field}
 use Rattle.rules.specs.Read.{numberAt, placeAt, endOfLine, headLine, calibrationsAt, calibrationLine, markAt, instrumentsAt, goodPlace, batchLine, batchLines, linesAfter, read}
 use Rattle.rules.specs.Render.{columns, fields, renderBatches, render}
@@ -224,11 +224,11 @@ takeTable =
     ∷ "    20     1     0     1     1"
     ∷ "    10     1     0     2     1     2"
     ∷ [])
-    ∷ takes 2 (240 ∷ 7 ∷ []) "30,2,1,\"2,1\"\r\n\"1440\",,0,\"2,1\"\r\n1,0,\"0\",\"1\""
+    ∷ takes 2 (240 ∷ 7 ∷ []) "30,2,1,\"1,2\"\r\n\"1440\",,0,\"1,2\"\r\n1,0,\"0\",\"1\""
     ("     2     3"
     ∷ "   240     7"
-    ∷ "    30     2     1     2     2     1"
-    ∷ "  1440     2     0     2     2     1"
+    ∷ "    30     2     1     2     1     2"
+    ∷ "  1440     1     0     2     1     2"
     ∷ "     1     1     0     1     1"
     ∷ [])
     -- what the host gives comes first: m, then the calibrations, one for each
@@ -245,7 +245,7 @@ takeTable =
     ∷ many 201 "30,1,0,1\r\n" "" 2 0
     ∷ many 201 "0,1,0,1\r\n" "" 2 0
     ∷ many 201 "30,1,0,1\r\n" "30,1" 12 202
-    -- then row by row, each in the order of a sheet's line: length, mark, list, place
+    -- then row by row, each in the order of a sheet's line: length, mark, list, its order, place
     ∷ many 199 "30,1,0,1\r\n" "30,2,0,1" 5 200
     ∷ at-row "0,9,2,3" 3 1
     ∷ at-row "1441,1,0,1" 3 1
@@ -256,6 +256,15 @@ takeTable =
     ∷ at-row "30,1,0,\"1,1\"" 4 1
     ∷ at-row "30,1,0,\"1,2,1\"" 4 1
     ∷ at-row "30,1,0,\"1,2,3,4,5,6,7,8,9,10,11,12,13,14,15,16,17,18,19,20,21,22,23,24,25\"" 4 1
+    ∷ at-row "0,1,0,\"2,1\"" 3 1
+    ∷ at-row "30,1,2,\"2,1\"" 1 1
+    ∷ refuses 3 (0 ∷ 0 ∷ 0 ∷ []) "30,1,0,\"2,1,2\"" 4 1
+    ∷ refuses 3 (0 ∷ 0 ∷ 0 ∷ []) "30,1,0,\"2,1,1\"" 4 1
+    ∷ refuses 3 (0 ∷ 0 ∷ 0 ∷ []) "30,1,0,\"2,1,4\"" 4 1
+    ∷ refuses 3 (0 ∷ 0 ∷ 0 ∷ []) "30,1,0,\"1,3,2\"" 13 1
+    ∷ at-row "30,1,0,1\r\n30,9,0,\"2,1\"\r\n0,1,0,1" 13 2
+    ∷ at-row "30,,1,\"2,1\"" 13 1
+    ∷ at-row "30,1,0,\"2,1\"\r\n30,1" 12 2
     ∷ at-row "30,2,0,1" 5 1
     ∷ at-row "30,,1,\"1,2\"" 5 1
     ∷ at-row "30,1,0,1\r\n30,2,0,1\r\n0,1,0,1\r\n" 5 2
@@ -268,7 +277,7 @@ due : List TakeCase → List Due
 due t = map (λ (c : TakeCase). c .due) t
 
 take-cases : taking takeTable ≡ due takeTable
-unfolding taking due takeTable again bytes lines _and_ _or_ mem every goodInstruments goodMinutes goodCalibration goodCalibrations isInstrument distinct goodList digits loneZero blanks field numberAt placeAt endOfLine headLine calibrationsAt calibrationLine markAt instrumentsAt goodPlace batchLine batchLines linesAfter read columns fields renderBatches render written isText isInside recordEnd fieldsFrom fileBy csv wellFormed valueFrom number numberOrEmpty parts numbers numberList rowOf rowsOf worklist rowLines sheetSaying taken
+unfolding taking due takeTable again bytes lines _and_ _or_ mem every goodInstruments goodMinutes goodCalibration goodCalibrations isInstrument distinct goodList ascendingFrom ascending digits loneZero blanks field numberAt placeAt endOfLine headLine calibrationsAt calibrationLine markAt instrumentsAt goodPlace batchLine batchLines linesAfter read columns fields renderBatches render written isText isInside recordEnd fieldsFrom fileBy csv wellFormed valueFrom number numberOrEmpty parts numbers numberList rowOf rowsOf worklist rowLines sheetSaying taken
 take-cases = refl
 
 -- a buffer that is long enough gets the sheet; a shorter one, or a refusal, nothing
@@ -299,5 +308,5 @@ hosted-said =
     ∷ []
 
 host-cases : hosted ≡ hosted-said
-unfolding hosted hosted-said again bytes lines _and_ _or_ mem every goodInstruments goodMinutes goodCalibration goodCalibrations isInstrument distinct goodList digits loneZero blanks field numberAt placeAt endOfLine headLine calibrationsAt calibrationLine markAt instrumentsAt goodPlace batchLine batchLines linesAfter read columns fields renderBatches render written isText isInside recordEnd fieldsFrom fileBy csv wellFormed valueFrom number numberOrEmpty parts numbers numberList rowOf rowsOf worklist rowLines sheetSaying taken intoBuffer takeHost
+unfolding hosted hosted-said again bytes lines _and_ _or_ mem every goodInstruments goodMinutes goodCalibration goodCalibrations isInstrument distinct goodList ascendingFrom ascending digits loneZero blanks field numberAt placeAt endOfLine headLine calibrationsAt calibrationLine markAt instrumentsAt goodPlace batchLine batchLines linesAfter read columns fields renderBatches render written isText isInside recordEnd fieldsFrom fileBy csv wellFormed valueFrom number numberOrEmpty parts numbers numberList rowOf rowsOf worklist rowLines sheetSaying taken intoBuffer takeHost
 host-cases = refl

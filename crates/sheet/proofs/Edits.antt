@@ -8,9 +8,10 @@ use lib.ListN.{length, getD, take, replicate}
 use lib.Seq.{take-at}
 use lib.Dec.{leb, ltb}
 use borrow.Author.Tests.{lt-ltb, le-ltb}
-use Rattle.rules.specs.Fold.{_and_, mem}
-use Rattle.rules.specs.Sheet.{Book, Batch, withPlace, withList, begun, size, batch, goodList, sound}
-use Rattle.rules.specs.Edit.{Edit, add, withdraw, requalify, move, start, edit, edited, refused, kept, without, withBatches, withBatch, ifWaiting}
+use Rattle.rules.specs.Fold.{_and_, pick, mem}
+use Rattle.rules.specs.Refusal.{badList, badOrder}
+use Rattle.rules.specs.Sheet.{Book, Batch, withPlace, withList, begun, size, batch, goodList, ascending, sound}
+use Rattle.rules.specs.Edit.{Edit, add, withdraw, requalify, move, start, edit, edited, refused, kept, without, withBatches, withBatch, unless, ifWaiting, ifListed}
 use Rattle.rules.specs.Render.{mark}
 use Rattle.rules.specs.Edit as E
 use Rattle.theory.proofs.Logic.{byTest}
@@ -19,10 +20,10 @@ use Rattle.theory.proofs.Worklist.{withRow, add-row}
 use Rattle.sheet.specs.declared.Sheet.{Sheet}
 use Rattle.sheet.specs.declared.Edited.{Edited}
 use Rattle.sheet.specs.declared.Refusal.{Refusal}
-use Rattle.sheet.specs.declared.Refusal.the-variants.{Nothing, BadList, BadPlace, NoBatch, SheetFull, HasStarted}
+use Rattle.sheet.specs.declared.Refusal.the-variants.{Nothing, BadList, BadPlace, BadOrder, NoBatch, SheetFull, HasStarted}
 use Rattle.sheet.specs.Represent.{padded, sheetOf, batchAt, bookOf, Sound}
 use Rattle.sheet.specs.Answers.{editedAs, editOf}
-use Rattle.sheet.specs.Change.{removed, replaced, requalified, startedAt, barred}
+use Rattle.sheet.specs.Change.{removed, replaced, requalified, startedAt, barred, unfit}
 use Rattle.sheet.proofs.Represent.{sheet-sound}
 use Rattle.sheet.proofs.Change.{remove-law, move-law, requalify-law, start-law}
 use Rattle.sheet.proofs.Scan.{in-range}
@@ -41,6 +42,37 @@ kept-sound s v (edited j) f = sheet-sound j (f j refl)
 pub edit-keeps : (s : Sheet) (e : Edit) → Sound s → Sound (editOf s e .sheet)
 unfolding editOf
 edit-keeps s e v = kept-sound s v (edit (bookOf s) e) (λ j q. edit-sound (bookOf s) e j (v .book) q)
+
+-- a list stands at the front of its row
+pub row-front : (l row : List ℕ) → row ≡ padded 24 l → take (length l) row ≡ l
+row-front l row d = ap (take (length l)) d ∙ take-at l (replicate (24 - length l) 0) (length l) refl
+
+-- a batch on m instruments may have the list l
+pub record Fit (m : ℕ) (l : List ℕ) : Type 0 where
+  pub good : goodList m l ≡ true
+  pub order : ascending l ≡ true
+
+pub is-fit : (m : ℕ) (l : List ℕ) {r : Refusal} → r ≡ unfit m l → r ≡ Nothing → Fit m l
+is-fit m l q h = from (goodList m l) (ascending l) refl refl (sym h ∙ q)
+  where
+    from : (t u : Bool) → goodList m l ≡ t → ascending l ≡ u → Nothing ≡ pick t (pick u Nothing BadOrder) BadList → Fit m l
+    from true true a b e = record { good = a; order = b }
+    from true false a b e = absurd (let z : _≡_ {A = ℕ} 0 1 = cc in omega arith)
+    from false u a b e = absurd (let z : _≡_ {A = ℕ} 0 1 = cc in omega arith)
+
+-- or is refused for it
+pub unfit-first : (s : Sheet) (l : List ℕ) {r : Refusal} (o : E.Edited) → r ≡ unfit (s .m) l → (r ≡ Nothing → ⊥)
+    → said r s ≡ editedAs s (ifListed (bookOf s .m) l o)
+unfit-first s l o q h =
+    ap (λ (x : Refusal). said x s) q
+    ∙ from (goodList (s .m) l) (ascending l) (λ e. h (q ∙ e))
+    ∙ ap (λ (m : ℕ). editedAs s (ifListed m l o)) (sym (book-m s))
+  where
+    from : (t u : Bool) → (pick t (pick u Nothing BadOrder) BadList ≡ Nothing → ⊥)
+        → said (pick t (pick u Nothing BadOrder) BadList) s ≡ editedAs s (unless t badList (unless u badOrder o))
+    from true true f = absurd (f refl)
+    from true false f = refl
+    from false u f = refl
 
 -- batch number b may be edited
 pub record Free (s : Sheet) (b : ℕ) : Type 0 where
@@ -156,19 +188,17 @@ module _ (s : Sheet) (v : Sound s) where
 
   -- ---- requalify
 
-  good-book : (l : List ℕ) {t : Bool} → goodList (s .m) l ≡ t → goodList (bookOf s .m) l ≡ t
-  good-book l g = ap (λ (m : ℕ). goodList m l) (book-m s) ∙ g
-
   pub requalify-none : (b : ℕ) (l : List ℕ) {r : Refusal} → r ≡ barred (s .started) (s .n) b → (r ≡ Nothing → ⊥)
       → said r s ≡ editOf s (requalify b l)
   unfolding editOf edit
   requalify-none b l q h = barred-first b _ q h
 
-  pub requalify-bad : (b : ℕ) (l : List ℕ) → Free s b → goodList (s .m) l ≡ false → said BadList s ≡ editOf s (requalify b l)
+  pub requalify-unfit : (b : ℕ) (l : List ℕ) {r : Refusal} → Free s b → r ≡ unfit (s .m) l → (r ≡ Nothing → ⊥)
+      → said r s ≡ editOf s (requalify b l)
   unfolding editOf edit
-  requalify-bad b l f g = rw (← free-as _ f, good-book l g)
+  requalify-unfit b l f q h = unfit-first s l _ q h ∙ free-as _ f
 
-  pub requalify-done : (b : ℕ) (l : List ℕ) (row : List ℕ) (y : Sheet) → Free s b → goodList (s .m) l ≡ true → row ≡ padded 24 l →
+  pub requalify-done : (b : ℕ) (l : List ℕ) (row : List ℕ) (y : Sheet) → Free s b → Fit (s .m) l → row ≡ padded 24 l →
       y ≡ requalified s (b - 1) (kept (getD (s .places) (b - 1) 0) (take (length l) row)) (length l) row →
       said Nothing y ≡ editOf s (requalify b l)
   unfolding editOf edit
@@ -176,17 +206,17 @@ module _ (s : Sheet) (v : Sound s) where
       let c = batch (bookOf s) b in
       let r = in-range b (s .n) (f .number) in
       let z = book-size s in
-      let w : take (length l) row ≡ l = ap (take (length l)) d ∙ take-at l (replicate (24 - length l) 0) (length l) refl in
+      let w = row-front l row d in
       let p : kept (getD (s .places) (b - 1) 0) (take (length l) row) ≡ kept (c .place) l =
       ap (kept (getD (s .places) (b - 1) 0)) w ∙ ap (λ (x : Batch). kept (x .place) l) (sym (batch-is b (f .number))) in
       let q : requalified s (b - 1) (kept (c .place) l) (length l) (padded 24 l)
       ≡ sheetOf (withBatch (bookOf s) b (withPlace (withList c l) (kept (c .place) l))) =
       ap (λ (t : Sheet). requalified t (b - 1) (kept (c .place) l) (length l) (padded 24 l)) (sym (v .arrays))
       ∙ requalify-law (bookOf s) (b - 1) (kept (c .place) l) l (omega arith) (narrow-book s v)
-      (omega (arith, few-instruments s v, good-long (s .m) l g .1))
+      (omega (arith, few-instruments s v, good-long (s .m) l (g .good) .1))
       ∙ ap (λ (x : Batch). sheetOf (withBatch (bookOf s) b (withPlace (withList x l) (kept (c .place) l))))
       (sym (number-at (bookOf s) b (r .0))) in
-      rw (← free-as _ f, good-book l g)
+      rw (← free-as _ f, ap (λ (m : ℕ). goodList m l) (book-m s) ∙ g .good, g .order)
       (ap (said Nothing)
       (u ∙ ap (λ (j : ℕ). requalified s (b - 1) j (length l) row) p
       ∙ ap (λ (j : List ℕ). requalified s (b - 1) (kept (c .place) l) (length l) j) d

@@ -10,7 +10,7 @@ use lib.Seq.{drop-drop, take-take, take-nil}
 use borrow.Author.Tests.{leb-true, ltb-true, ltb-false, lt-ltb, le-ltb}
 use Rattle.rules.specs.Fold.{_and_, mem}
 use Rattle.rules.specs.Refusal.{Refusal, malformed, badList, badCalibration}
-use Rattle.rules.specs.Sheet.{Batch, goodInstruments, goodMinutes, goodCalibration, isInstrument}
+use Rattle.rules.specs.Sheet.{Batch, goodInstruments, goodMinutes, goodCalibration, isInstrument, ascending}
 use Rattle.rules.specs.Field.{Field, value, blank, fault, field}
 use Rattle.rules.specs.Read.{Part, gives, refuses, andThen, orRefuse, fieldPart, numberAt, blankZero, placeAt, endOfLine, Head, headLine, calibrationsAt, calibrationLine, markAt, instrumentsAt, placeOr, goodPlace, batchLine}
 use Rattle.theory.proofs.Logic.{byTest, and-right}
@@ -193,7 +193,8 @@ batch-near m w r g h =
     then-near 1 _
     (widen (λ (k : List ℕ). length k ≤ 24) 144 (λ k e. omega arith) (omega arith)
     (instruments-near m c [] (w - k₁ - k₂ - k₃ - k₄) (drop k₄ (drop k₃ (drop k₂ (drop k₁ r)))) (omega arith))) (λ l k₅ a₅ b₅.
+    or-near (ascending l) _ (λ u₃.
     end-near (w - k₁ - k₂ - k₃ - k₄ - k₅) (drop k₅ (drop k₄ (drop k₃ (drop k₂ (drop k₁ r))))) _ (omega arith)
-    (or-near (goodPlace s p l) _ (λ u₃.
+    (or-near (goodPlace s p l) _ (λ u₄.
     last-near short (record { minutes = t; list = l; place = placeOr p l; started = s }) (w - k₁ - k₂ - k₃ - k₄ - k₅ - 1)
-    (drop 1 (drop k₅ (drop k₄ (drop k₃ (drop k₂ (drop k₁ r)))))) a₅)))))))))
+    (drop 1 (drop k₅ (drop k₄ (drop k₃ (drop k₂ (drop k₁ r)))))) a₅))))))))))

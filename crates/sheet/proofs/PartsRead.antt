@@ -7,7 +7,7 @@ use denote.Enum.Declared.{tagOf}
 use types.Run.{OneOf, miss}
 use lib.ListN.{length, drop, length-drop}
 use lib.Seq.{drop-drop}
-use Rattle.rules.specs.Refusal.{malformed, badSize, badLength, badList, badPlace, noBatch, sheetFull, levelAbove, bufferShort, badCalibration, hasStarted, badWorklist}
+use Rattle.rules.specs.Refusal.{malformed, badSize, badLength, badList, badPlace, noBatch, sheetFull, levelAbove, bufferShort, badCalibration, hasStarted, badWorklist, badOrder}
 use Rattle.rules.specs.Refusal as R
 use Rattle.rules.specs.Sheet.{Batch}
 use Rattle.rules.specs.Read.{Part, gives, refuses, batchLine, Reading, onLine, batchLines}
@@ -35,10 +35,11 @@ coded-none bufferShort q = let z : _≡_ {A = ℕ} 0 1 = cc in omega arith
 coded-none badCalibration q = let z : _≡_ {A = ℕ} 0 1 = cc in omega arith
 coded-none hasStarted q = let z : _≡_ {A = ℕ} 0 1 = cc in omega arith
 coded-none badWorklist q = let z : _≡_ {A = ℕ} 0 1 = cc in omega arith
+coded-none badOrder q = let z : _≡_ {A = ℕ} 0 1 = cc in omega arith
 
 -- a tag of the enum other than the first is a refusal
-pub some-refusal : (e : Refusal) → OneOf (1 ∷ 2 ∷ 3 ∷ 4 ∷ 5 ∷ 6 ∷ 7 ∷ 8 ∷ 9 ∷ 10 ∷ 11 ∷ 12 ∷ []) (tagOf the-type e) → e ≡ Nothing → ⊥
-some-refusal e h q = miss (1 ∷ 2 ∷ 3 ∷ 4 ∷ 5 ∷ 6 ∷ 7 ∷ 8 ∷ 9 ∷ 10 ∷ 11 ∷ 12 ∷ []) 0 tt (rw q at h)
+pub some-refusal : (e : Refusal) → OneOf (1 ∷ 2 ∷ 3 ∷ 4 ∷ 5 ∷ 6 ∷ 7 ∷ 8 ∷ 9 ∷ 10 ∷ 11 ∷ 12 ∷ 13 ∷ []) (tagOf the-type e) → e ≡ Nothing → ⊥
+some-refusal e h q = miss (1 ∷ 2 ∷ 3 ∷ 4 ∷ 5 ∷ 6 ∷ 7 ∷ 8 ∷ 9 ∷ 10 ∷ 11 ∷ 12 ∷ 13 ∷ []) 0 tt (rw q at h)
 
 -- what follows k bytes from at on is found again by its length
 pub suffix : (s : List ℕ) (at k : ℕ) (u : List ℕ) → at ≤ length s → k ≤ length (drop at s) → drop k (drop at s) ≡ u

@@ -5,7 +5,6 @@ use mathlib.Core.Bool.{Bool, true, false, not}
 use mathlib.Core.List.{List, [], _∷_, _++_}
 use native.Mathlib.Omega.{arith}
 use lib.ListN.{length, getD, take, replicate}
-use lib.Seq.{take-at}
 use lib.Dec.{leb, eqb}
 use borrow.Author.Tests.{leb-true, le-leb, lt-leb}
 use Rattle.rules.specs.Fold.{pick, _and_, mem}
@@ -19,18 +18,17 @@ use Rattle.theory.proofs.Member.{every-at}
 use Rattle.theory.proofs.Format.{mark-said, good-list-is, good-calibrations-is}
 use Rattle.theory.proofs.Worklist.{rowBatch, withRow, given}
 use Rattle.sheet.specs.declared.Sheet.{Sheet}
-use Rattle.sheet.specs.declared.Refusal.the-variants.{Nothing, Malformed, BadLength, BadList, BadPlace}
+use Rattle.sheet.specs.declared.Refusal.the-variants.{Nothing, Malformed, BadLength, BadPlace}
+use Rattle.sheet.specs.declared.Refusal.{Refusal}
 use Rattle.sheet.specs.Represent.{padded, sheetOf, bookOf, Sound, appended}
 use Rattle.sheet.specs.Answers.{editedAs, readAs}
 use Rattle.sheet.proofs.Represent.{append-law}
 use Rattle.sheet.proofs.Lines.{taken, place-listed, place-taken}
 use Rattle.sheet.proofs.SoundArrays.{book-m, book-size, few-instruments, narrow-book, good-long}
-use Rattle.sheet.proofs.Edits.{said}
+use Rattle.sheet.specs.Change.{unfit}
+use Rattle.sheet.proofs.Edits.{said, row-front, Fit, unfit-first}
 
 module _ (s : Sheet) (v : Sound s) (w : Row) where
-  good-book : {t : Bool} → goodList (s .m) (w .list) ≡ t → goodList (bookOf s .m) (w .list) ≡ t
-  good-book g = ap (λ (m : ℕ). goodList m (w .list)) (book-m s) ∙ g
-
   pub row-length : leb 1 (w .minutes) and leb (w .minutes) 1440 ≡ false → said BadLength s ≡ editedAs s (withRow (bookOf s) w)
   unfolding withRow goodMinutes
   row-length e = rw e
@@ -43,15 +41,15 @@ module _ (s : Sheet) (v : Sound s) (w : Row) where
 
     -- and the mark
     module _ (a : w .mark ≤ 1) where
-      pub row-bad : goodList (s .m) (w .list) ≡ false → said BadList s ≡ editedAs s (withRow (bookOf s) w)
+      pub row-unfit : {r : Refusal} → r ≡ unfit (s .m) (w .list) → (r ≡ Nothing → ⊥) → said r s ≡ editedAs s (withRow (bookOf s) w)
       unfolding withRow goodMinutes
-      row-bad g = rw (e, le-leb (w .mark) 1 a, good-book g)
+      row-unfit q h = rw (e, le-leb (w .mark) 1 a) (unfit-first s (w .list) _ q h)
 
       -- and the list, which stands at the front of a row of 24
-      module _ (g : goodList (s .m) (w .list) ≡ true) (row : List ℕ) (d : row ≡ padded 24 (w .list)) (p : ℕ)
+      module _ (f : Fit (s .m) (w .list)) (row : List ℕ) (d : row ≡ padded 24 (w .list)) (p : ℕ)
           (q : p ≡ pick (not (eqb (w .mark) 1) and eqb (w .place) 0) (getD row 0 0) (w .place)) where
-        pub front : take (length (w .list)) row ≡ w .list
-        front = ap (take (length (w .list))) d ∙ take-at (w .list) (replicate (24 - length (w .list)) 0) (length (w .list)) refl
+        front : take (length (w .list)) row ≡ w .list
+        front = row-front (w .list) row d
 
         chosen : p ≡ taken (eqb (w .mark) 1) (w .place) (w .list)
         chosen =
@@ -60,12 +58,12 @@ module _ (s : Sheet) (v : Sound s) (w : Row) where
 
         test : {t : Bool} → mem p (take (length (w .list)) row) ≡ t → goodPlace (eqb (w .mark) 1) (w .place) (w .list) ≡ t
         test h =
-            place-listed (eqb (w .mark) 1) (w .place) (w .list) (good-long (s .m) (w .list) g .0)
+            place-listed (eqb (w .mark) 1) (w .place) (w .list) (good-long (s .m) (w .list) (f .good) .0)
             ∙ ap (λ (x : ℕ). mem x (w .list)) (sym chosen) ∙ ap (mem p) (sym front) ∙ h
 
         pub row-place : mem p (take (length (w .list)) row) ≡ false → said BadPlace s ≡ editedAs s (withRow (bookOf s) w)
         unfolding withRow goodMinutes
-        row-place h = rw (e, le-leb (w .mark) 1 a, good-book g, test h)
+        row-place h = rw (e, le-leb (w .mark) 1 a, ap (λ (m : ℕ). goodList m (w .list)) (book-m s) ∙ f .good, f .order, test h)
 
         pub row-done : (y : Sheet) → s .n < 200 → mem p (take (length (w .list)) row) ≡ true
             → y ≡ appended s (w .minutes) p (w .mark) (length (w .list)) row → said Nothing y ≡ editedAs s (withRow (bookOf s) w)
@@ -73,13 +71,13 @@ module _ (s : Sheet) (v : Sound s) (w : Row) where
         row-done y n h u =
             let z = book-size s in
             let b = rowBatch w in
-            let o : p ≡ b .place = chosen ∙ place-taken (eqb (w .mark) 1) (s .m) (w .place) (w .list) (good-list-is (s .m) (w .list) g .ranged) (test h) in
+            let o : p ≡ b .place = chosen ∙ place-taken (eqb (w .mark) 1) (s .m) (w .place) (w .list) (good-list-is (s .m) (w .list) (f .good) .ranged) (test h) in
             let c : appended s (w .minutes) (b .place) (w .mark) (length (w .list)) (padded 24 (w .list))
             ≡ sheetOf (withBatches (bookOf s) (bookOf s .batches ++ (b ∷ []))) =
             ap (λ (i : ℕ). appended s (w .minutes) (b .place) i (length (w .list)) (padded 24 (w .list))) (sym (mark-said (w .mark) a))
             ∙ ap (λ (x : Sheet). appended x (w .minutes) (b .place) (mark (eqb (w .mark) 1)) (length (w .list)) (padded 24 (w .list))) (sym (v .arrays))
-            ∙ append-law (bookOf s) b (omega arith) (narrow-book s v) (omega (arith, few-instruments s v, good-long (s .m) (w .list) g .1)) in
-            rw (e, le-leb (w .mark) 1 a, good-book g, test h)
+            ∙ append-law (bookOf s) b (omega arith) (narrow-book s v) (omega (arith, few-instruments s v, good-long (s .m) (w .list) (f .good) .1)) in
+            rw (e, le-leb (w .mark) 1 a, ap (λ (m : ℕ). goodList m (w .list)) (book-m s) ∙ f .good, f .order, test h)
             (ap (said Nothing)
             (u ∙ ap (λ (i : ℕ). appended s (w .minutes) i (w .mark) (length (w .list)) row) o
             ∙ ap (λ (i : List ℕ). appended s (w .minutes) (b .place) (w .mark) (length (w .list)) i) d

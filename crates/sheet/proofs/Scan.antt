@@ -8,9 +8,9 @@ use native.Mathlib.Numerals.{add-one}
 use lib.ListN.{length, getD, set, take, drop, replicate, drop-of-length-le}
 use lib.Seq.{take-suc, take-all, drop-cons, take-add, drop-at, length-take-le, getD-take}
 use lib.Dec.{leb}
-use borrow.Author.Tests.{eq-eqb, ne-eqb, leb-true, not-true, not-false}
+use borrow.Author.Tests.{eq-eqb, ne-eqb, leb-true, le-leb, lt-leb, not-true, not-false}
 use Rattle.rules.specs.Fold.{_and_, _or_, mem, every}
-use Rattle.rules.specs.Sheet.{isInstrument, distinct, goodList}
+use Rattle.rules.specs.Sheet.{isInstrument, distinct, goodList, ascendingFrom, ascending}
 use Rattle.theory.proofs.Logic.{byTest, and-left, and-right, and-mk, and-no-left, and-no-right}
 use Rattle.sheet.specs.Represent.{padded}
 use Rattle.sheet.proofs.Padded.{set-append}
@@ -73,6 +73,29 @@ module _ {l : List ℕ} {from i : ℕ} (s : DistinctSo l from i) where
   pub distinct-end : length l ≤ i → true ≡ distinct (drop from l)
   unfolding distinct
   distinct-end h = sym (sym (s .same) ∙ ap distinct (drop-of-length-le l h))
+
+-- ---- the order of a list
+
+-- before is the entry before i, 0 at the front, and the entries from i on ascend from there as the whole list ascends
+pub record AscendsSo (l : List ℕ) (before i : ℕ) : Type 0 where
+  pub same : ascendingFrom before (drop i l) ≡ ascending l
+
+pub ascends-start : {l : List ℕ} → AscendsSo l 0 0
+unfolding ascending
+ascends-start = record { same = refl }
+
+module _ {l : List ℕ} {before i : ℕ} (s : AscendsSo l before i) where
+  pub falls : i < length l → getD l i 0 < before → false ≡ ascending l
+  unfolding ascendingFrom _and_
+  falls h e = sym (sym (s .same) ∙ ap (ascendingFrom before) (rest l i h) ∙ rw (lt-leb before (getD l i 0) e))
+
+  pub rises : i < length l → before ≤ getD l i 0 → AscendsSo l (getD l i 0) (i + 1)
+  unfolding ascendingFrom _and_
+  rises h e = record { same = sym (ap (ascendingFrom before) (rest l i h) ∙ rw (le-leb before (getD l i 0) e)) ∙ s .same }
+
+  pub ascends-end : length l ≤ i → true ≡ ascending l
+  unfolding ascendingFrom
+  ascends-end h = sym (sym (s .same) ∙ ap (ascendingFrom before) (drop-of-length-le l h))
 
 -- ---- a part of a list
 

@@ -81,6 +81,10 @@ good-entry m l i e h =
     let r = and-right (leb (length l) m) _ (and-right (leb 1 (length l)) _ e) in
     leb-true _ _ (and-right (leb 1 (getD l i 0)) _ (every-at (isInstrument m) l 0 i (and-left _ _ r) h))
 
+-- it fits a row of bytes
+pub row-fits : (m : ℕ) (l : List ℕ) → m ≤ 24 → goodList m l ≡ true → (length l ≤ 24) × ((i : ℕ) → i < length l → getD l i 0 < 256)
+row-fits m l h g = (omega (arith, good-long m l g .1), λ i u. omega (arith, good-entry m l i g u))
+
 -- ---- the limits
 
 module _ (s : Sheet) (v : Sound s) where
@@ -147,7 +151,3 @@ module _ (s : Sheet) (v : Sound s) where
       let g = good-batch (bookOf s) b (sound-is (bookOf s) (v .book)) (is-number s b ∙ e) in
       let t = good-ranged (bookOf s .m) (batch (bookOf s) b .list) i (g .list) (ap (λ (c : Batch). mem i (c .list)) q ∙ h) in
       omega (arith, few-instruments, book-m s, t .1)
-
-  -- a good list fits a row
-  pub row-fits : (l : List ℕ) → goodList (s .m) l ≡ true → (length l ≤ 24) × ((i : ℕ) → i < length l → getD l i 0 < 256)
-  row-fits l g = (omega (arith, few-instruments, good-long (s .m) l g .1), λ i h. omega (arith, few-instruments, good-entry (s .m) l i g h))

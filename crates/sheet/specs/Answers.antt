@@ -2,7 +2,7 @@
 use Prim.Native.Nat.{ℕ}
 use mathlib.Core.Path.{_≡_, refl}
 use mathlib.Core.List.{[], _∷_}
-use Rattle.rules.specs.Refusal.{malformed, badSize, badLength, badList, badPlace, noBatch, sheetFull, levelAbove, bufferShort, badCalibration, hasStarted, badWorklist, number}
+use Rattle.rules.specs.Refusal.{malformed, badSize, badLength, badList, badPlace, noBatch, sheetFull, levelAbove, bufferShort, badCalibration, hasStarted, badWorklist, badOrder, number}
 use Rattle.rules.specs.Refusal as R
 use Rattle.rules.specs.Edit as E
 use Rattle.rules.specs.Read as D
@@ -11,7 +11,7 @@ use Rattle.sheet.specs.declared.Sheet.{Sheet}
 use Rattle.sheet.specs.declared.Edited.{Edited}
 use Rattle.sheet.specs.declared.Reading.{Reading}
 use Rattle.sheet.specs.declared.Refusal.{Refusal}
-use Rattle.sheet.specs.declared.Refusal.the-variants.{Nothing, Malformed, BadSize, BadLength, BadList, BadPlace, NoBatch, SheetFull, LevelAbove, BufferShort, BadCalibration, HasStarted, BadWorklist}
+use Rattle.sheet.specs.declared.Refusal.the-variants.{Nothing, Malformed, BadSize, BadLength, BadList, BadPlace, NoBatch, SheetFull, LevelAbove, BufferShort, BadCalibration, HasStarted, BadWorklist, BadOrder}
 use Rattle.sheet.specs.Represent.{sheetOf, bookOf, blank}
 
 -- a refusal's number; 0 for none
@@ -29,6 +29,7 @@ numberOf BufferShort = 9
 numberOf BadCalibration = 10
 numberOf HasStarted = 11
 numberOf BadWorklist = 12
+numberOf BadOrder = 13
 
 -- the enum's case for each refusal of the rules
 abbrev pub coded : R.Refusal → Refusal
@@ -44,6 +45,7 @@ coded bufferShort = BufferShort
 coded badCalibration = BadCalibration
 coded hasStarted = HasStarted
 coded badWorklist = BadWorklist
+coded badOrder = BadOrder
 
 -- a refusal and its case have one number
 pub coded-number : (e : R.Refusal) → numberOf (coded e) ≡ number e
@@ -59,6 +61,7 @@ coded-number bufferShort = refl
 coded-number badCalibration = refl
 coded-number hasStarted = refl
 coded-number badWorklist = refl
+coded-number badOrder = refl
 
 -- ---- edits: on a refusal the very same sheet
 

@@ -1,14 +1,17 @@
--- What an edit does to the arrays of a sheet: a batch taken out, a place entered, a list and a place entered, a batch started; and which
--- batches it may not touch.
+-- What an edit does to the arrays of a sheet: a batch taken out, a place entered, a list and a place entered, a batch started; which batches
+-- it may not touch, and which lists it may not enter.
 use Prim.Native.Nat.{ℕ, _+_, _-_, _*_}
 use mathlib.Core.List.{List, _++_}
 use lib.ListN.{getD, set, take, drop, replicate}
 use lib.Seq.{paste}
 use lib.Dec.{leb, eqb}
 use Rattle.rules.specs.Fold.{_and_, pick}
+use Rattle.rules.specs.Sheet.{goodList, ascending}
 use Rattle.sheet.specs.declared.Sheet.{Sheet}
 use Rattle.sheet.specs.declared.Refusal.{Refusal}
-use Rattle.sheet.specs.declared.Refusal.the-variants.{Nothing, NoBatch, HasStarted}
+use Rattle.sheet.specs.declared.Refusal.the-variants.{Nothing, BadList, NoBatch, HasStarted, BadOrder}
+use Rattle.sheet.specs.declared.edit.ListRow.{ListRow}
+use Rattle.sheet.specs.Represent.{padded}
 
 -- xs without its by entries from at on, and as many 0 at its end
 unfoldable pub cut : ℕ → ℕ → List ℕ → List ℕ
@@ -70,3 +73,11 @@ startedAt s i = record {
 abbrev pub barred : List ℕ → ℕ → ℕ → Refusal
 barred started n b =
     pick (leb 1 b and leb b n) (pick (eqb (getD started (b - 1) 0) 0) Nothing HasStarted) NoBatch
+
+-- why a batch on m instruments may not have the list l
+abbrev pub unfit : ℕ → List ℕ → Refusal
+unfit m l = pick (goodList m l) (pick (ascending l) Nothing BadOrder) BadList
+
+-- that, and the row of a list for a batch
+abbrev pub judgedList : ℕ → List ℕ → ListRow
+judgedList m l = record { refusal = unfit m l; row = pick (goodList m l) (padded 24 l) (replicate 24 0) }

@@ -3,8 +3,8 @@ use Prim.Native.Nat.{ℕ, _-_}
 use mathlib.Core.Bool.{Bool}
 use mathlib.Core.List.{List, []}
 use lib.ListN.{length, replicate}
-use Rattle.rules.specs.Refusal.{badPlace}
-use Rattle.rules.specs.Sheet.{Batch}
+use Rattle.rules.specs.Refusal.{badPlace, badOrder}
+use Rattle.rules.specs.Sheet.{Batch, ascending}
 use Rattle.rules.specs.Read.{Part, gives, refuses, andThen, orRefuse, endOfLine, instrumentsAt, placeOr, goodPlace}
 use Rattle.rules.specs.Render.{mark}
 use Rattle.sheet.specs.declared.Reading.{Reading}
@@ -55,9 +55,10 @@ lineAs w j (refuses e) = noLine (coded e) j
 abbrev pub lineList : ℕ → ℕ → ℕ → Bool → ℕ → List ℕ → Part Batch
 lineList m t p s c r =
     andThen (instrumentsAt m c [] r) (λ l r₁.
-    endOfLine r₁ (λ r₂.
+    orRefuse (ascending l) badOrder
+    (endOfLine r₁ (λ r₂.
     orRefuse (goodPlace s p l) badPlace
-    (gives (record { minutes = t; list = l; place = placeOr p l; started = s }) r₂)))
+    (gives (record { minutes = t; list = l; place = placeOr p l; started = s }) r₂))))
 
 -- ---- a sheet that is refused: no sheet
 

@@ -8,10 +8,11 @@ ghost use Rattle.rules.specs.Edit.{kept, add as adding, withdraw as withdrawing
 ghost use Rattle.theory.proofs.Worklist.{withRow};
 ghost use Rattle.sheet.specs.Represent.{Sound, bookOf};
 ghost use Rattle.sheet.specs.Answers.{EditAnswered, editedAs};
-ghost use Rattle.sheet.specs.Change.{cut, removed, requalified, barred};
+ghost use Rattle.sheet.specs.Change.{cut, removed, requalified, barred, judgedList};
 use crate::Edited;
 use crate::Refusal;
 use crate::Sheet;
+use crate::ascends;
 use crate::enter_part;
 use crate::kept_in;
 use crate::listed;
@@ -34,8 +35,8 @@ impl Sheet {
         self.with_row(minutes, 0, 0, list)
     }
 
-    // One batch more, the last, judged in the order of a batch line: length, mark, list, place, for which the first listed is taken where it
-    // is 0 and the batch has not started.
+    // One batch more, the last, judged in the order of a batch line: length, mark, list, its order, place, for which the first listed is taken
+    // where it is 0 and the batch has not started.
     pub fn with_row(self, minutes: u32, place: u32, mark: u32, list: &[u32]) -> Edited
         requires { ⌜ Sound self ⌝ ∗ ⌜ size (bookOf self) < 200 ⌝ }
         ensures { λ r. ⌜ r ≡ editedAs self
@@ -54,15 +55,17 @@ impl Sheet {
                 sheet: self,
             };
         }
-        if !good_list(list, m) {
+        let l = judge_list(list, m);
+        let e = l.refusal;
+        let Refusal::Nothing = e else {
             return Edited {
-                refusal: Refusal::BadList,
+                refusal: e,
                 sheet: self,
             };
-        }
-        let row = row_of(list);
-        let p = place_or(place, mark as u8, row[0]);
+        };
+        let row = l.row;
         let count = list.len();
+        let p = place_or(place, mark as u8, row[0]);
         if !listed(&row, 0, count, p) {
             return Edited {
                 refusal: Refusal::BadPlace,
@@ -114,13 +117,15 @@ impl Sheet {
                 sheet: self,
             };
         };
-        if !good_list(list, m) {
+        let l = judge_list(list, m);
+        let d = l.refusal;
+        let Refusal::Nothing = d else {
             return Edited {
-                refusal: Refusal::BadList,
+                refusal: d,
                 sheet: self,
             };
-        }
-        let row = row_of(list);
+        };
+        let row = l.row;
         let sheet = self.requalified(b - 1, list.len() as u8, row);
         Edited {
             refusal: Refusal::Nothing,
@@ -243,6 +248,36 @@ fn refusal_of(started: &[u8], n: usize, b: usize) -> Refusal
         return Refusal::HasStarted;
     }
     Refusal::Nothing
+}
+
+// A list that was judged: its refusal, or Nothing, and its row, all 0 where it is no list for a batch.
+struct ListRow {
+    refusal: Refusal,
+    row: [u8; 24],
+}
+
+// A list, judged for a batch on m instruments: first what it names, and then its order.
+fn judge_list(list: &[u32], m: usize) -> ListRow
+    requires { ⌜ m ≤ 24 ⌝ }
+    ensures { λ r. ⌜ r ≡ judgedList m (now (list .entry)) ⌝ }
+{
+    if !good_list(list, m) {
+        return ListRow {
+            refusal: Refusal::BadList,
+            row: [0u8; 24],
+        };
+    }
+    let row = row_of(list);
+    if !ascends(&row, list.len()) {
+        return ListRow {
+            refusal: Refusal::BadOrder,
+            row,
+        };
+    }
+    ListRow {
+        refusal: Refusal::Nothing,
+        row,
+    }
 }
 
 // A list that a batch may have on m instruments. A long one is refused before repeats are looked for.

@@ -7,6 +7,7 @@ ghost use lib.Dec.{leb, eqb};
 ghost use lib.ListN.{length, getD, take, drop};
 ghost use lib.Seq.{paste};
 ghost use Rattle.rules.specs.Fold.{_and_, mem, pick};
+ghost use Rattle.rules.specs.Sheet.{ascending};
 ghost use Rattle.rules.specs.Edit.{kept};
 ghost use Rattle.sheet.specs.Represent.{padded, appended, blank};
 ghost use Rattle.sheet.specs.Answers.{numberOf};
@@ -30,6 +31,7 @@ pub enum Refusal {
     BadCalibration,
     HasStarted,
     BadWorklist,
+    BadOrder,
 }
 
 // A refusal's number; 0 for none.
@@ -50,6 +52,7 @@ pub fn code(refusal: Refusal) -> u32
         Refusal::BadCalibration => 10,
         Refusal::HasStarted => 11,
         Refusal::BadWorklist => 12,
+        Refusal::BadOrder => 13,
     }
 }
 
@@ -148,6 +151,23 @@ fn listed(lists: &[u8], from: usize, count: usize, x: u32) -> bool
         i += 1;
     }
     false
+}
+
+// None of the first count entries is smaller than the one before it.
+fn ascends(list: &[u8], count: usize) -> bool
+    requires { ⌜ count ≤ length (now list) ⌝ }
+    ensures { λ r. ⌜ r ≡ ascending (take count (now (list .entry))) ⌝ }
+{
+    let mut before = 0;
+    let mut i = 0;
+    while i < count {
+        if list[i] < before {
+            return false;
+        }
+        before = list[i];
+        i += 1;
+    }
+    true
 }
 
 // The place where the count entries from from on name it, and the first of them otherwise.

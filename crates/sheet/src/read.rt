@@ -13,6 +13,7 @@ ghost use Rattle.sheet.specs.Answers.{readAs, ReadAnswered};
 use crate::Reading;
 use crate::Refusal;
 use crate::Sheet;
+use crate::ascends;
 use crate::enter_part;
 use crate::listed;
 use crate::place_or;
@@ -103,8 +104,8 @@ impl Line {
     }
 }
 
-// A batch line from its list on: the instruments, each judged at its own field, the LF, and then the place, for which the first
-// listed is taken where it is 0 and the batch has not started.
+// A batch line from its list on: the instruments, each judged at its own field, their order, the LF, and then the place, for which the
+// first listed is taken where it is 0 and the batch has not started.
 fn line_list(
     s: &[u8],
     at: usize,
@@ -134,6 +135,9 @@ fn line_list(
         list[k] = x as u8;
         next += 6;
         k += 1;
+    }
+    if !ascends(&list, count) {
+        return Line::refused(Refusal::BadOrder, line);
     }
     if !ends_at(s, next) {
         return Line::refused(Refusal::Malformed, line);

@@ -1,16 +1,16 @@
 -- What is claimed on the book before each call of a list, and after the last (documents 01 and 02): of reviews, trials, balance, settle, the
--- plans compared with, started batches, edits in either order and files.
+-- plans compared with, started batches, edits in either order, lists and files.
 use Prim.Native.Nat.{ℕ, suc, _-_, _*_, _≤_, _<_}
 use mathlib.Core.Path.{_≡_}
 use mathlib.Core.Bool.{true, false}
 use mathlib.Core.List.{List, [], _∷_, _++_, map}
 use lib.ListN.{length, take, drop}
 use lib.Dec.{ltb}
-use Rattle.rules.specs.Fold.{pick, at, mem}
+use Rattle.rules.specs.Fold.{pick, at, mem, firstTo}
 use Rattle.rules.specs.Refusal.{bufferShort}
 use Rattle.rules.specs.Sheet.{Book, Batch, size, batch, sound}
 use Rattle.rules.specs.Read.{read, accepted}
-use Rattle.rules.specs.Rewrite.{written}
+use Rattle.rules.specs.Rewrite.{written, SameContents}
 use Rattle.rules.specs.Edit.{Edited, refused, edited, add, withdraw, requalify, move, start, edit}
 use Rattle.rules.specs.Instance.{Assignment, calibrationsTo, busy, instance, places, n}
 use Rattle.rules.specs.Load.{makespan, equilibrium, review}
@@ -39,6 +39,10 @@ homes k = map (λ (b : Batch). b .place) (calibrationsTo (k .calibrations) (k .m
 pub record LeavesPut (k : Book) (x : Assignment) : Type 0 where
   pub listed : (b : ℕ) → b < size k → mem (at x (suc b)) (batch k (suc b) .list) ≡ true
   pub put : (b : ℕ) → b < size k → batch k (suc b) .started ≡ true → at x (suc b) ≡ batch k (suc b) .place
+
+-- the lowest of the instruments 1 to m that a list names
+abbrev pub lowest : ℕ → List ℕ → ℕ
+lowest m l = firstTo m (λ i. mem i l)
 
 -- the number of batch b after a withdrawal of batch j that ends so: one less where j stood before it
 abbrev pub fallen : Edited → ℕ → ℕ → ℕ
@@ -154,9 +158,19 @@ pub record Reviews (k : Book) : Type 0 where
   pub few : review (instance k) (places k) .improving ≤ size k
   pub waits : batch k (review (instance k) (places k) .improving) .started ≡ false
 
--- of the file written from it: it is read as the very same book, and has at most 33,958 bytes
+-- Of a place not given, in an edit: it is the lowest qualified instrument. An edit that adds gives none, and one that requalifies gives none
+-- where the place is not in the new list.
+pub record Lists (k : Book) : Type 0 where
+  pub added : (t : ℕ) (l : List ℕ) (j : Book) → edit k (add t l) ≡ edited j → batch j (size j) .place ≡ lowest (k .m) l
+  pub requalified : (b : ℕ) (l : List ℕ) (j : Book) → edit k (requalify b l) ≡ edited j → mem (batch k b .place) l ≡ false
+      → batch j b .place ≡ lowest (k .m) l
+
+-- Of the file written from it: it is read as the very same book, has at most 33,958 bytes, and is the file of another sheet's book if that
+-- has the same contents, and only then.
 pub record Files (k : Book) : Type 0 where
   pub same : read (written k) ≡ accepted k
+  pub equal : (j : Book) → sound j ≡ true → SameContents k j → written k ≡ written j
+  pub only : (j : Book) → sound j ≡ true → written k ≡ written j → SameContents k j
   pub few : length (written k) ≤ 33958
 
 -- Of two calls, whichever comes first: each has the same answer, and the book after both is the same.
@@ -177,6 +191,7 @@ pub record Interleaves (k : Book) : Type 0 where
 
 pub record Claims (k : Book) : Type 0 where
   pub sound : sound k ≡ true
+  pub lists : Lists k
   pub files : Files k
   pub reviews : Reviews k
   pub permits : Permits k

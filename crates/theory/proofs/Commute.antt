@@ -4,14 +4,15 @@
 use Prim.Native.Nat.{ℕ, zero, suc, _-_, _<_}
 use mathlib.Core.Path.{_≡_, refl, sym, ap, _∙_}
 use mathlib.Core.Bool.{Bool, true, false, not}
+use mathlib.Core.List.{List, [], _∷_}
 use native.Mathlib.Omega.{arith}
 use lib.ListN.{length-set}
 use lib.Seq.{getD-set-other, set-comm}
 use lib.Dec.{leb}
 use borrow.Author.Tests.{leb-true, eqb-false, not-true}
 use Rattle.rules.specs.Fold.{_and_, mem}
-use Rattle.rules.specs.Refusal.{Refusal, badList, badPlace, noBatch, hasStarted}
-use Rattle.rules.specs.Sheet.{Book, Batch, withPlace, withList, begun, noBatchHere, batch, isBatch, size, goodList}
+use Rattle.rules.specs.Refusal.{Refusal, badList, badPlace, badOrder, noBatch, hasStarted}
+use Rattle.rules.specs.Sheet.{Book, Batch, withPlace, withList, begun, noBatchHere, batch, isBatch, size, goodList, ascending}
 use Rattle.rules.specs.Edit.{Edit, add, withdraw, requalify, move, start, Edited, edited, unless, kept, withBatches, withBatch, ifWaiting, edit}
 use Rattle.rules.specs.Edit as E
 use Rattle.rules.specs.Run.{Call, editing, reviewing, trying, balancing, settling, editAnswer, editBook, answer, next}
@@ -42,30 +43,47 @@ pub record Local (c : Call) (b : ℕ) : Type 0 where
   pub book : (k : Book) → next k c ≡ editBook k (enter k b (entry (k .m) (size k) (batch k b)))
   pub some : (m n : ℕ) (r s : Batch) → entry m n r ≡ entered s → 0 < b
 
--- an edit that is judged by 6, 11 and one more test of m and the record, and changes the record in some way
-module _ (b : ℕ) (p : ℕ → Batch → Bool) (f : Refusal) (g : Batch → Batch) where
+-- a test of m and the record, and the refusal where it fails
+record Test : Type 0 where
+  passes : ℕ → Batch → Bool
+  refusal : Refusal
+
+abbrev unlessAll : Book → ℕ → List Test → Edited → Edited
+unlessAll k b [] o = o
+unlessAll k b (t ∷ ts) o = unless (t .passes (k .m) (batch k b)) (t .refusal) (unlessAll k b ts o)
+
+abbrev checkAll : ℕ → Batch → List Test → Entry → Entry
+checkAll m r [] o = o
+checkAll m r (t ∷ ts) o = check (t .passes m r) (t .refusal) (checkAll m r ts o)
+
+unless-check : (k : Book) (b : ℕ) (t : Bool) (e : Refusal) (x : Edited) (o : Entry) → x ≡ enter k b o → unless t e x ≡ enter k b (check t e o)
+unless-check k b true e x o h = h
+unless-check k b false e x o h = refl
+
+all-checked : (k : Book) (b : ℕ) (ts : List Test) (o : Entry)
+    → unlessAll k b ts (enter k b o) ≡ enter k b (checkAll (k .m) (batch k b) ts o)
+all-checked k b [] o = refl
+all-checked k b (t ∷ ts) o = unless-check k b (t .passes (k .m) (batch k b)) (t .refusal) _ _ (all-checked k b ts o)
+
+-- an edit that is judged by 6, 11 and further tests, and changes the record in some way
+module _ (b : ℕ) (ts : List Test) (g : Batch → Batch) where
   abbrev judged : Book → Edited
-  judged k = ifWaiting k b (unless (p (k .m) (batch k b)) f (edited (withBatch k b (g (batch k b)))))
+  judged k = ifWaiting k b (unlessAll k b ts (edited (withBatch k b (g (batch k b)))))
 
   abbrev comesTo : ℕ → ℕ → Batch → Entry
-  comesTo m n r = check (leb 1 b and leb b n) noBatch (check (not (r .started)) hasStarted (check (p m r) f (entered (g r))))
+  comesTo m n r = check (leb 1 b and leb b n) noBatch (check (not (r .started)) hasStarted (checkAll m r ts (entered (g r))))
 
   judged-is : (k : Book) → judged k ≡ enter k b (comesTo (k .m) (size k) (batch k b))
   unfolding isBatch
-  judged-is k = from (leb 1 b and leb b (size k)) (not (batch k b .started)) (p (k .m) (batch k b))
-    where
-      from : (t u v : Bool) → unless t noBatch (unless u hasStarted (unless v f (edited (withBatch k b (g (batch k b))))))
-          ≡ enter k b (check t noBatch (check u hasStarted (check v f (entered (g (batch k b))))))
-      from true true true = refl
-      from true true false = refl
-      from true false v = refl
-      from false u v = refl
+  judged-is k =
+      unless-check k b (leb 1 b and leb b (size k)) noBatch _ _
+      (unless-check k b (not (batch k b .started)) hasStarted _ _ (all-checked k b ts (entered (g (batch k b)))))
 
   comes-some : (m n : ℕ) (r s : Batch) → comesTo m n r ≡ entered s → 0 < b
   comes-some m n r s h = from (leb 1 b and leb b n) refl h
     where
       from : (t : Bool) → leb 1 b and leb b n ≡ t
-          → check t noBatch (check (not (r .started)) hasStarted (check (p m r) f (entered (g r)))) ≡ entered s → 0 < b
+          → check t noBatch (check (not (r .started)) hasStarted (checkAll m r ts (entered (g r)))) ≡ entered s → 0 < b
       from true q e = leb-true 1 b (and-left (leb 1 b) _ q)
       from false q e = absurd (let z : _≡_ {A = ℕ} 0 1 = cc in omega arith)
 
@@ -88,10 +106,12 @@ Of c none = Unit {0}
 pub subject-local : (c : Call) → Of c (subject c)
 unfolding edit
 subject-local (editing (requalify b l)) =
-    local b (λ m r. goodList m l) badList (λ r. withPlace (withList r l) (kept (r .place) l)) (requalify b l) (λ k. refl)
-subject-local (editing (move b i)) = local b (λ m r. mem i (r .list)) badPlace (λ r. withPlace r i) (move b i) (λ k. refl)
--- no further test
-subject-local (editing (start b)) = local b (λ m r. true) noBatch begun (start b) (λ k. refl)
+    local b
+    (record { passes = λ m r. goodList m l; refusal = badList } ∷ record { passes = λ m r. ascending l; refusal = badOrder } ∷ [])
+    (λ r. withPlace (withList r l) (kept (r .place) l)) (requalify b l) (λ k. refl)
+subject-local (editing (move b i)) =
+    local b (record { passes = λ m r. mem i (r .list); refusal = badPlace } ∷ []) (λ r. withPlace r i) (move b i) (λ k. refl)
+subject-local (editing (start b)) = local b [] begun (start b) (λ k. refl)
 subject-local (editing (add t l)) = tt
 subject-local (editing (withdraw b)) = tt
 subject-local reviewing = tt

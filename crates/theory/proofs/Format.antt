@@ -10,7 +10,7 @@ use lib.Dec.{leb, ltb, eqb}
 use borrow.Author.Tests.{leb-true, ltb-true, eqb-true, eqb-false, lt-ltb, ne-eqb, not-true}
 use Rattle.rules.specs.Fold.{_and_, _or_, mem, every}
 use Rattle.rules.specs.Refusal.{badList}
-use Rattle.rules.specs.Sheet.{Batch, maxBatches, goodInstruments, goodMinutes, goodCalibration, goodCalibrations, isInstrument, distinct, goodList}
+use Rattle.rules.specs.Sheet.{Batch, maxBatches, goodInstruments, goodMinutes, goodCalibration, goodCalibrations, isInstrument, distinct, goodList, ascending}
 use Rattle.rules.specs.Field.{Field}
 use Rattle.rules.specs.Read.{gives, orRefuse, fieldPart, numberAt, blankZero, placeAt, endOfLine, headLine, calibrationsAt, calibrationLine, markAt, instrumentsAt, goodPlace, batchLine, accepted, batchLines, linesAfter, read}
 use Rattle.rules.specs.Render.{columns, fields, line, Given, numbered, leftBlank, givenNumber, givenColumns, mark, Described, Description, renderBatch, renderBatches, render, batchWithinLimits, withinLimits, placed, bookSaid}
@@ -119,13 +119,15 @@ line-rest xs r = append-assoc (fields xs) (10 ∷ []) r
 pub record BatchWithinLimits (m : ℕ) (b : Described) : Type 0 where
   pub minutes : goodMinutes (b .minutes) ≡ true
   pub list : goodList m (b .list) ≡ true
+  pub order : ascending (b .list) ≡ true
   pub place : goodPlace (b .started) (givenNumber (b .place)) (b .list) ≡ true
 
 pub batch-within-is : (m : ℕ) (b : Described) → batchWithinLimits m b ≡ true → BatchWithinLimits m b
 unfolding batchWithinLimits
 batch-within-is m b e =
     let r = and-right (goodMinutes (b .minutes)) _ e in
-    record { minutes = and-left _ _ e; list = and-left _ _ r; place = and-right (goodList m (b .list)) _ r }
+    let s = and-right (goodList m (b .list)) _ r in
+    record { minutes = and-left _ _ e; list = and-left _ _ r; order = and-left _ _ s; place = and-right (ascending (b .list)) _ s }
 
 -- the parts of a list of qualified instruments
 pub record GoodList (m : ℕ) (l : List ℕ) : Type 0 where
@@ -180,6 +182,7 @@ batch-read m b r h e =
       g .count,
       instruments-read m (b .list) [] (10 ∷ r) (listed-fit m (b .list) h (g .ranged)) refl,
       and-mk _ _ (g .ranged) (g .apart),
+      f .order,
       f .place,
     )
 

@@ -10,7 +10,7 @@ use lib.ListN.{length, getD, length-append}
 use lib.Dec.{leb}
 use borrow.Author.Tests.{leb-true, leb-false, le-leb}
 use Rattle.rules.specs.Fold.{at, mem, every, anyTo}
-use Rattle.rules.specs.Sheet.{Batch, waiting, withPlace, noBatchHere, isInstrument, distinct, goodMinutes, goodCalibration, goodList, goodBatch}
+use Rattle.rules.specs.Sheet.{Batch, waiting, withPlace, noBatchHere, isInstrument, distinct, goodMinutes, goodCalibration, goodList, ascendingFrom, ascending, goodBatch}
 use Rattle.rules.specs.Instance.{Assignment, jobOf, qualified, calibrationOf, calibrationsTo}
 use Rattle.theory.proofs.Logic.{byTest, conflict, and-mk, or-none, or-cases}
 use Rattle.theory.proofs.Member.{mem-one, mem-head, every-append, every-one, every-at}
@@ -131,7 +131,7 @@ calibrations-none l (suc c) e =
     )
 
 calibration-good : (m i t : ℕ) → 0 < i → i ≤ m → goodCalibration t ≡ true → every (goodBatch m) (calibrationOf i t) ≡ true
-unfolding every goodBatch goodMinutes goodList isInstrument distinct mem goodCalibration
+unfolding every goodBatch goodMinutes goodList isInstrument distinct ascending ascendingFrom mem goodCalibration
 calibration-good m i zero p q e = refl
 calibration-good m i (suc t) p q e =
     let s : suc t ≤ 240 = leb-true (suc t) 240 e in
@@ -139,7 +139,7 @@ calibration-good m i (suc t) p q e =
     every-one (goodBatch m) (waiting (suc t) (i ∷ []) i)
     (and-mk _ _ (and-mk _ _ (le-leb 1 (suc t) (omega arith)) (le-leb (suc t) 1440 (omega arith)))
     (and-mk _ _ (and-mk _ _ (le-leb 1 1 (omega arith)) (and-mk _ _ (le-leb 1 m (omega arith)) (and-mk _ _ (and-mk _ _ one refl) (and-mk _ _ refl refl))))
-    (mem-head i [])))
+    (and-mk _ _ (and-mk _ _ (le-leb 0 i (omega arith)) refl) (mem-head i []))))
 
 pub calibrations-good : (m : ℕ) (l : List ℕ) (c : ℕ) → length l ≡ m → c ≤ m → every goodCalibration l ≡ true
     → every (goodBatch m) (calibrationsTo l c) ≡ true

@@ -192,7 +192,7 @@ placed-good m [] x e h = e
 placed-good m (b ∷ bs) [] e h = e
 placed-good m (b ∷ bs) (p ∷ x) e h =
     let g = good-is m b (and-left _ _ e) in
-    and-mk _ _ (is-good m _ (record { minutes = g .minutes; list = g .list; place = qualified-listed b p (g .place) (h 0 (omega arith)) }))
+    and-mk _ _ (is-good m _ (record { minutes = g .minutes; list = g .list; order = g .order; place = qualified-listed b p (g .place) (h 0 (omega arith)) }))
     (placed-good m bs x (and-right (goodBatch m b) _ e) (λ c l. h (suc c) (omega arith)))
 
 -- a permitted assignment has each batch where it counts as qualified

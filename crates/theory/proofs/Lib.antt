@@ -46,6 +46,7 @@ pub mod Commute
 pub mod Interleave
 pub mod Limits
 pub mod Rewrite
+pub mod Lists
 pub mod Worklist
 pub mod Taken
 pub mod Planning

@@ -9,7 +9,7 @@ use lib.Dec.{leb, eqb}
 use borrow.Author.Tests.{leb-true, eqb-true, eq-eqb, not-true}
 use Rattle.rules.specs.Fold.{_and_, mem, every}
 use Rattle.rules.specs.Refusal.{Refusal}
-use Rattle.rules.specs.Sheet.{Book, Batch, maxBatches, goodInstruments, goodMinutes, goodCalibration, goodCalibrations, isInstrument, distinct, goodList}
+use Rattle.rules.specs.Sheet.{Book, Batch, maxBatches, goodInstruments, goodMinutes, goodCalibration, goodCalibrations, isInstrument, distinct, goodList, ascending}
 use Rattle.rules.specs.Field.{Field, value, blank, fault, field}
 use Rattle.rules.specs.Read.{Part, gives, refuses, andThen, orRefuse, fieldPart, numberAt, blankZero, placeAt, endOfLine, Head, headLine, calibrationsAt, calibrationLine, markAt, instrumentsAt, goodPlace, batchLine, Reading, accepted, refusedAt, onLine, batchLines, linesAfter, read}
 use Rattle.rules.specs.Render.{columns, fields, line, Given, numbered, leftBlank, givenNumber, givenColumns, mark, Described, Description, renderBatch, renderBatches, render, batchWithinLimits, withinLimits, placed, bookSaid}
@@ -164,22 +164,23 @@ batch-wrote m r b s e =
     then-gives (numberAt r₃) _ h₄ (λ c r₄ e₄ h₅.
     or-gives (leb 1 c and leb c m) _ _ h₅ (λ o₂ h₆.
     then-gives (instrumentsAt m c [] r₄) _ h₆ (λ l r₅ e₅ h₇.
-    end-gives r₅ _ h₇ (λ r₆ e₆ h₈.
-    or-gives (goodPlace a (givenNumber p) l) _ _ h₈ (λ o₃ h₉.
-    gave h₉ (λ same z.
+    or-gives (ascending l) _ _ h₇ (λ o₃ h₈.
+    end-gives r₅ _ h₈ (λ r₆ e₆ h₉.
+    or-gives (goodPlace a (givenNumber p) l) _ _ h₉ (λ o₄ h₁₀.
+    gave h₁₀ (λ same z.
     let g = counted m c r₃ r₄ l r₅ e₄ o₂ e₅ in
     let w : 10 ∷ s ≡ r₅ = ap (λ (u : List ℕ). 10 ∷ u) (sym z) ∙ sym e₆ in
     let x : fields (length l ∷ l) ++ (10 ∷ s) ≡ r₃ = ap (λ (u : List ℕ). fields (length l ∷ l) ++ u) w ∙ g .1 in
     let y = number-wrote r₂ (mark a) r₃ (length l ∷ l) (10 ∷ s) (mark-gives r₂ a r₃ e₃) x in
     record {
       d = record { minutes = t; list = l; place = p; started = a };
-      fit = and-mk _ _ o₁ (and-mk _ _ (g .0) o₃);
+      fit = and-mk _ _ o₁ (and-mk _ _ (g .0) (and-mk _ _ o₃ o₄));
       same = same;
       wrote =
           batch-rest (record { minutes = t; list = l; place = p; started = a }) s
           ∙ ap (λ (u : List ℕ). columns 6 t ++ u) (ap (λ (u : List ℕ). givenColumns p ++ u) y ∙ e₂)
           ∙ sym (number-gives r t r₁ e₁);
-    }))))))))))
+    })))))))))))
 
 -- ---- the batch lines
 

@@ -38,7 +38,8 @@ module _ (m : ℕ) where
   unfolding batchWithinLimits goodPlace
   batch-within b e =
       let g = good-is m b e in
-      and-mk _ _ (g .minutes) (and-mk _ _ (g .list) (or-right (not (b .started) and eqb (b .place) 0) _ (g .place)))
+      and-mk _ _ (g .minutes)
+      (and-mk _ _ (g .list) (and-mk _ _ (g .order) (or-right (not (b .started) and eqb (b .place) 0) _ (g .place))))
 
   batches-same : (bs : List Batch) → every (goodBatch m) bs ≡ true → map placed (map describedBatch bs) ≡ bs
   unfolding every

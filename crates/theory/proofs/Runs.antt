@@ -28,6 +28,7 @@ use Rattle.theory.proofs.Interleave.{interleaves}
 use Rattle.theory.proofs.Claims.{homes, renumbered, numberAfter, Lends, Bounds, Plans, Claims}
 use Rattle.theory.proofs.Records.{records-lead}
 use Rattle.theory.proofs.Rewrite.{read-written, most-written}
+use Rattle.theory.proofs.Lists.{added-lowest, requalified-lowest, same-bytes, bytes-same}
 use Rattle.theory.proofs.Review.{review-settled, settled-review, settled-none, none-settled, review-first}
 use Rattle.theory.proofs.Heights.{permitted-partial}
 use Rattle.theory.proofs.Ending.{trial-lifts, trial-pushes}
@@ -223,7 +224,13 @@ sound-claims k e =
     } in
     record {
       sound = e;
-      files = record { same = read-written k e; few = most-written k e };
+      lists = record { added = added-lowest k; requalified = requalified-lowest k };
+      files = record {
+        same = read-written k e;
+        equal = λ j f. same-bytes k j e f;
+        only = λ j f. bytes-same k j e f;
+        few = most-written k e;
+      };
       reviews = record {
         settled = λ z. settled-none I x (review-settled I x z);
         unsettled = λ h. settled-review I x (none-settled I x h);

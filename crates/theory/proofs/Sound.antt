@@ -9,8 +9,8 @@ use lib.Dec.{leb, ltb, eqb}
 use borrow.Author.Tests.{leb-true, ltb-true, eqb-true, le-leb, not-true}
 use Rattle.rules.specs.Fold.{_and_, at, mem, every}
 use Rattle.rules.specs.Refusal.{Refusal}
-use Rattle.rules.specs.Sheet.{Batch, Book, waiting, size, batch, noBatchHere, isBatch, head, maxBatches, goodInstruments, goodMinutes, goodCalibrations, isInstrument, goodList, goodBatch, sound}
-use Rattle.rules.specs.Edit.{Edit, add, withdraw, requalify, move, start, Edited, edited, unless, kept, without, withBatches, withBatch, ifWaiting, edit}
+use Rattle.rules.specs.Sheet.{Batch, Book, waiting, size, batch, noBatchHere, isBatch, head, maxBatches, goodInstruments, goodMinutes, goodCalibrations, isInstrument, goodList, ascending, goodBatch, sound}
+use Rattle.rules.specs.Edit.{Edit, add, withdraw, requalify, move, start, Edited, edited, unless, kept, without, withBatches, withBatch, ifWaiting, ifListed, edit}
 use Rattle.rules.specs.Read.{accepted, placeOr, goodPlace, read}
 use Rattle.rules.specs.Render.{givenNumber, Described, Description, batchWithinLimits, withinLimits, placed, bookSaid}
 use Rattle.theory.proofs.Logic.{byTest, conflict, and-left, and-right, and-mk, or-cases}
@@ -23,17 +23,19 @@ use Rattle.theory.proofs.Parse.{read-is-render}
 pub record Good (m : ℕ) (b : Batch) : Type 0 where
   pub minutes : goodMinutes (b .minutes) ≡ true
   pub list : goodList m (b .list) ≡ true
+  pub order : ascending (b .list) ≡ true
   pub place : mem (b .place) (b .list) ≡ true
 
 pub good-is : (m : ℕ) (b : Batch) → goodBatch m b ≡ true → Good m b
 unfolding goodBatch
 good-is m b e =
     let r = and-right (goodMinutes (b .minutes)) _ e in
-    record { minutes = and-left _ _ e; list = and-left _ _ r; place = and-right (goodList m (b .list)) _ r }
+    let s = and-right (goodList m (b .list)) _ r in
+    record { minutes = and-left _ _ e; list = and-left _ _ r; order = and-left _ _ s; place = and-right (ascending (b .list)) _ s }
 
 pub is-good : (m : ℕ) (b : Batch) → Good m b → goodBatch m b ≡ true
 unfolding goodBatch
-is-good m b g = and-mk _ _ (g .minutes) (and-mk _ _ (g .list) (g .place))
+is-good m b g = and-mk _ _ (g .minutes) (and-mk _ _ (g .list) (and-mk _ _ (g .order) (g .place)))
 
 pub record SoundBook (k : Book) : Type 0 where
   pub instruments : goodInstruments (k .m) ≡ true
@@ -99,6 +101,7 @@ within-good m b e =
     is-good m (placed b) (record {
       minutes = f .minutes;
       list = f .list;
+      order = f .order;
       place = place-listed (b .started) (givenNumber (b .place)) (b .list) (good-some m (b .list) (f .list)) (f .place);
     })
 
@@ -135,6 +138,14 @@ waits k b o j h =
     let a = passes (isBatch k b) _ _ j h in
     let c = passes (not (batch k b .started)) _ o j (a .1) in
     (a .0, not-true _ (c .0), c .1)
+
+-- an edit that gives a batch a list
+pub lists : (m : ℕ) (l : List ℕ) (o : Edited) (j : Book) → ifListed m l o ≡ edited j
+    → (goodList m l ≡ true) × (ascending l ≡ true) × (o ≡ edited j)
+lists m l o j h =
+    let a = passes (goodList m l) _ _ j h in
+    let c = passes (ascending l) _ o j (a .1) in
+    (a .0, c .0, c .1)
 
 without-length : (bs : List Batch) (k : ℕ) → length (without bs k) ≤ length bs
 without-length [] k = omega arith
@@ -187,10 +198,10 @@ edit-sound k (add t l) j v e =
     let s = sound-is k v in
     let a = passes (ltb (size k) maxBatches) _ _ j e in
     let b = passes (goodMinutes t) _ _ j (a .1) in
-    let c = passes (goodList (k .m) l) _ _ j (b .1) in
+    let c = lists (k .m) l _ j (b .1) in
     let x = waiting t l (head l) in
-    let g : Good (k .m) x = record { minutes = b .0; list = c .0; place = first-listed l (good-some (k .m) l (c .0)) } in
-    gave (appended-sound k x s g (ltb-true _ _ (a .0))) (c .1)
+    let g : Good (k .m) x = record { minutes = b .0; list = c .0; order = c .1; place = first-listed l (good-some (k .m) l (c .0)) } in
+    gave (appended-sound k x s g (ltb-true _ _ (a .0))) (c .2)
 edit-sound k (withdraw b) j v e =
     let s = sound-is k v in
     gave (record {
@@ -202,20 +213,21 @@ edit-sound k (withdraw b) j v e =
 edit-sound k (requalify b l) j v e =
     let s = sound-is k v in
     let a = waits k b _ j e in
-    let c = passes (goodList (k .m) l) _ _ j (a .2) in
+    let c = lists (k .m) l _ j (a .2) in
     gave (with-sound k b _ s (record {
       minutes = good-batch k b s (a .0) .minutes;
       list = c .0;
+      order = c .1;
       place = kept-listed (batch k b .place) l (good-some (k .m) l (c .0));
-    })) (c .1)
+    })) (c .2)
 edit-sound k (move b i) j v e =
     let s = sound-is k v in
     let a = waits k b _ j e in
     let c = passes (mem i (batch k b .list)) _ _ j (a .2) in
     let g = good-batch k b s (a .0) in
-    gave (with-sound k b _ s (record { minutes = g .minutes; list = g .list; place = c .0 })) (c .1)
+    gave (with-sound k b _ s (record { minutes = g .minutes; list = g .list; order = g .order; place = c .0 })) (c .1)
 edit-sound k (start b) j v e =
     let s = sound-is k v in
     let a = waits k b _ j e in
     let g = good-batch k b s (a .0) in
-    gave (with-sound k b _ s (record { minutes = g .minutes; list = g .list; place = g .place })) (a .2)
+    gave (with-sound k b _ s (record { minutes = g .minutes; list = g .list; order = g .order; place = g .place })) (a .2)

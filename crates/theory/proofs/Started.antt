@@ -9,9 +9,9 @@ use lib.Seq.{getD-set-other}
 use lib.Dec.{leb, ltb}
 use borrow.Author.Tests.{ltb-true, ltb-false, leb-true, not-true}
 use Rattle.rules.specs.Fold.{_and_, pick, mem}
-use Rattle.rules.specs.Refusal.{Refusal, badLength, badList, badPlace, noBatch, sheetFull, hasStarted}
-use Rattle.rules.specs.Sheet.{Book, Batch, withPlace, noBatchHere, batch, isBatch, size, maxBatches, goodMinutes, goodList}
-use Rattle.rules.specs.Edit.{Edit, add, withdraw, requalify, move, start, Edited, edited, unless, without, withBatches, withBatch, ifWaiting, edit}
+use Rattle.rules.specs.Refusal.{Refusal, badLength, badList, badPlace, badOrder, noBatch, sheetFull, hasStarted}
+use Rattle.rules.specs.Sheet.{Book, Batch, withPlace, noBatchHere, batch, isBatch, size, maxBatches, goodMinutes, goodList, ascending}
+use Rattle.rules.specs.Edit.{Edit, add, withdraw, requalify, move, start, Edited, edited, unless, without, withBatches, withBatch, ifWaiting, ifListed, edit}
 use Rattle.rules.specs.Instance.{Assignment, instance}
 use Rattle.rules.specs.Run.{Call, editing, reviewing, trying, balancing, settling, placeAll, withPlaces, balanceBook, settleBook, editBook, roomy, next}
 use Rattle.theory.proofs.Logic.{byTest, conflict, and-left}
@@ -84,6 +84,11 @@ module _ (k : Book) (b : ℕ) (s : batch k (suc b) .started ≡ true) where
       kept-unless k Same (isBatch k j) noBatch _ refl
       (λ t. kept-unless k Same (not (batch k j .started)) hasStarted o refl (λ u. f t (not-true _ u)))
 
+  -- checks on a list
+  listed-keeps : (l : List ℕ) (o : Edited) → Same (editBook k o) → Same (editBook k (ifListed (k .m) l o))
+  listed-keeps l o h =
+      kept-unless k Same (goodList (k .m) l) badList _ refl (λ t. kept-unless k Same (ascending l) badOrder o refl (λ u. h))
+
   taken-out : (j : ℕ) → isBatch k j ≡ true → batch k j .started ≡ false → (t : Bool) → ltb j (suc b) ≡ t
       → batch (withBatches k (without (k .batches) (j - 1))) (pick t (suc b - 1) (suc b)) ≡ batch k (suc b)
   taken-out j e h true q =
@@ -107,11 +112,10 @@ module _ (k : Book) (b : ℕ) (s : batch k (suc b) .started ≡ true) where
   edit-keeps (add t l) =
       kept-unless k Same (ltb (size k) maxBatches) sheetFull _ refl
       (λ p. kept-unless k Same (goodMinutes t) badLength _ refl
-      (λ q. kept-unless k Same (goodList (k .m) l) badList _ refl
-      (λ r. List·getD-append (k .batches) _ noBatchHere b there)))
+      (λ q. listed-keeps l _ (List·getD-append (k .batches) _ noBatchHere b there)))
   edit-keeps (withdraw j) = withdraw-keeps j (isBatch k j) (not (batch k j .started)) refl refl
   edit-keeps (requalify j l) =
-      waiting-keeps j _ (λ t u. kept-unless k Same (goodList (k .m) l) badList _ refl (λ v. set-keeps j _ t u))
+      waiting-keeps j _ (λ t u. listed-keeps l _ (set-keeps j _ t u))
   edit-keeps (move j i) =
       waiting-keeps j _ (λ t u. kept-unless k Same (mem i (batch k j .list)) badPlace _ refl (λ v. set-keeps j _ t u))
   edit-keeps (start j) = waiting-keeps j _ (λ t u. set-keeps j _ t u)

@@ -9,8 +9,8 @@ use lib.ListN.{length}
 use lib.Dec.{leb, eqb}
 use borrow.Author.Tests.{leb-true, leb-false, ltb-true, lt-leb, lt-ltb}
 use Rattle.rules.specs.Fold.{_and_, every}
-use Rattle.rules.specs.Refusal.{Refusal, malformed, badLength, badList, badPlace}
-use Rattle.rules.specs.Sheet.{Book, Batch, maxBatches, goodInstruments, goodMinutes, goodCalibrations, distinct, goodList, sound}
+use Rattle.rules.specs.Refusal.{Refusal, malformed, badLength, badList, badPlace, badOrder}
+use Rattle.rules.specs.Sheet.{Book, Batch, maxBatches, goodInstruments, goodMinutes, goodCalibrations, distinct, goodList, ascending, sound}
 use Rattle.rules.specs.Field.{isDigit}
 use Rattle.rules.specs.Read.{Part, gives, andThen, orRefuse, placeAt, endOfLine, markAt, instrumentsAt, goodPlace, batchLine, Reading, accepted, refusedAt, onLine, batchLines, linesAfter, read}
 use Rattle.rules.specs.Render.{columns, fields, line, numbered}
@@ -81,8 +81,9 @@ pub row-read : (m : ℕ) (w : Row) (r : List ℕ) → m ≤ 24 → smallRow w �
     ≡ orRefuse (goodMinutes (w .minutes)) badLength
     (orRefuse (leb (w .mark) 1) malformed
     (orRefuse (goodList m (w .list)) badList
+    (orRefuse (ascending (w .list)) badOrder
     (orRefuse (goodPlace (eqb (w .mark) 1) (w .place) (w .list)) badPlace
-    (gives (rowBatch w) r))))
+    (gives (rowBatch w) r)))))
 unfolding batchLine markAt endOfLine
 row-read m w r h e =
     let s = small-is w e in
@@ -118,8 +119,9 @@ lines-read m l bs j (w ∷ ws) h e =
     (row-judged j _ _ (goodMinutes (w .minutes)) badLength _ _
     (row-judged j _ _ (leb (w .mark) 1) malformed _ _
     (row-judged j _ _ (goodList m (w .list)) badList _ _
+    (row-judged j _ _ (ascending (w .list)) badOrder _ _
     (row-judged j _ _ (goodPlace (eqb (w .mark) 1) (w .place) (w .list)) badPlace _ _
-    (lines-read m l (bs ++ (rowBatch w ∷ [])) (suc j) ws h (and-right (smallRow w) _ e))))))
+    (lines-read m l (bs ++ (rowBatch w ∷ [])) (suc j) ws h (and-right (smallRow w) _ e)))))))
 
 -- so is the whole sheet
 pub rows-read : (m : ℕ) (l : List ℕ) (ws : List Row) → goodInstruments m ≡ true → goodCalibrations m l ≡ true

@@ -9,14 +9,14 @@ use lib.Seq.{length-take-le, take-all}
 use lib.Dec.{leb, ltb, eqb}
 use borrow.Author.Tests.{leb-true, leb-false, ltb-true, lt-leb}
 use Rattle.rules.specs.Fold.{_and_, _or_, every}
-use Rattle.rules.specs.Refusal.{Refusal, malformed, badSize, badLength, badList, badPlace, badCalibration, badWorklist}
-use Rattle.rules.specs.Sheet.{Book, Batch, size, maxBatches, goodInstruments, goodMinutes, goodCalibrations, goodList, sound}
+use Rattle.rules.specs.Refusal.{Refusal, malformed, badSize, badLength, badPlace, badCalibration, badWorklist}
+use Rattle.rules.specs.Sheet.{Book, Batch, size, maxBatches, goodInstruments, goodMinutes, goodCalibrations, goodList, ascending, sound}
 use Rattle.rules.specs.Read.{placeOr, goodPlace, Reading, accepted, refusedAt}
-use Rattle.rules.specs.Edit.{add, Edited, refused, edited, unless, withBatches, edit}
+use Rattle.rules.specs.Edit.{add, Edited, refused, edited, unless, withBatches, ifListed, edit}
 use Rattle.rules.specs.Worklist.{Row, Worklist, rows, faultyRow, orAtNone}
 use Rattle.theory.proofs.Logic.{byTest, and-no-left, and-no-right}
 use Rattle.theory.proofs.Parse.{no-reading}
-use Rattle.theory.proofs.Sound.{sound-is, is-sound, good-some, place-listed, passes, appended-sound, gave}
+use Rattle.theory.proofs.Sound.{sound-is, is-sound, good-some, place-listed, passes, lists, appended-sound, gave}
 
 -- the book of what the host gives: no batch yet
 abbrev pub bare : ℕ → List ℕ → Book
@@ -31,7 +31,7 @@ unfoldable pub withRow : Book → Row → Edited
 withRow k w =
     unless (goodMinutes (w .minutes)) badLength
     (unless (leb (w .mark) 1) malformed
-    (unless (goodList (k .m) (w .list)) badList
+    (ifListed (k .m) (w .list)
     (unless (goodPlace (eqb (w .mark) 1) (w .place) (w .list)) badPlace
     (edited (withBatches k (k .batches ++ (rowBatch w ∷ [])))))))
 
@@ -64,6 +64,7 @@ rowsOn k (faultyRow j) = refusedAt badWorklist j
 record Entered (k : Book) (w : Row) (j : Book) : Type 0 where
   minutes : goodMinutes (w .minutes) ≡ true
   list : goodList (k .m) (w .list) ≡ true
+  order : ascending (w .list) ≡ true
   place : goodPlace (eqb (w .mark) 1) (w .place) (w .list) ≡ true
   book : edited (withBatches k (k .batches ++ (rowBatch w ∷ []))) ≡ edited j
 
@@ -72,16 +73,16 @@ unfolding withRow
 entered k w j e =
     let a = passes (goodMinutes (w .minutes)) _ _ j e in
     let b = passes (leb (w .mark) 1) _ _ j (a .1) in
-    let c = passes (goodList (k .m) (w .list)) _ _ j (b .1) in
-    let d = passes (goodPlace (eqb (w .mark) 1) (w .place) (w .list)) _ _ j (c .1) in
-    record { minutes = a .0; list = c .0; place = d .0; book = d .1 }
+    let c = lists (k .m) (w .list) _ j (b .1) in
+    let d = passes (goodPlace (eqb (w .mark) 1) (w .place) (w .list)) _ _ j (c .2) in
+    record { minutes = a .0; list = c .0; order = c .1; place = d .0; book = d .1 }
 
 pub with-row-sound : (k : Book) (w : Row) (j : Book) → sound k ≡ true → ltb (size k) maxBatches ≡ true → withRow k w ≡ edited j
     → sound j ≡ true
 with-row-sound k w j v h e =
     let r = entered k w j e in
     let p = place-listed (eqb (w .mark) 1) (w .place) (w .list) (good-some (k .m) (w .list) (r .list)) (r .place) in
-    gave (appended-sound k (rowBatch w) (sound-is k v) (record { minutes = r .minutes; list = r .list; place = p }) (ltb-true _ _ h))
+    gave (appended-sound k (rowBatch w) (sound-is k v) (record { minutes = r .minutes; list = r .list; order = r .order; place = p }) (ltb-true _ _ h))
     (r .book)
 
 pub row-more : (k : Book) (w : Row) (j : Book) → withRow k w ≡ edited j → size j ≡ suc (size k)

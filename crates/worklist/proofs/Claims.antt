@@ -2,18 +2,18 @@
 -- reading the sheet that says the same; or some row is the first faulty one, and the answer is 12 at that row.
 use Prim.Native.Nat.{ℕ, suc, _+_, _-_, _≤_, _<_}
 use mathlib.Core.Path.{_≡_, refl, sym, ap, _∙_, subst}
-use mathlib.Core.Bool.{Bool, true, false}
+use mathlib.Core.Bool.{Bool, true, false, not}
 use mathlib.Core.List.{List, [], _∷_}
 use native.Mathlib.Omega.{arith}
 use lib.ListN.{length}
 use lib.Dec.{leb, eqb}
 use borrow.Author.Tests.{leb-true, le-leb, lt-leb}
-use Rattle.rules.specs.Refusal.{Refusal, badSize, badCalibration, badWorklist, number}
-use Rattle.rules.specs.Sheet.{Book, maxBatches, goodInstruments, goodCalibrations, goodMinutes, goodList}
+use Rattle.rules.specs.Refusal.{Refusal, malformed, badSize, badLength, badList, badPlace, badCalibration, badOrder, badWorklist, number}
+use Rattle.rules.specs.Sheet.{Book, maxBatches, goodInstruments, goodCalibrations, goodMinutes, goodList, ascending}
 use Rattle.rules.specs.Read.{Reading, accepted, refusedAt, goodPlace, read}
+use Rattle.rules.specs.Edit.{Edited, unless}
 use Rattle.rules.specs.Grammar.{Ends}
 use Rattle.rules.specs.Worklist.{Row, Worklist, rows, faultyRow, worklist, sheetSaying, byRow, orAtNone, takenRows, taken}
-use Rattle.theory.proofs.Logic.{byTest}
 use Rattle.theory.proofs.Worklist.{bare, withRow, onRow, withRows, given, onGiven, rowsOn}
 use Rattle.theory.proofs.Taken.{taken-is, taken-reads}
 use Rattle.sheet.proofs.Accepted.{refused-line}
@@ -55,25 +55,29 @@ module _ (m : ℕ) (l s : List ℕ) (a : goodInstruments m ≡ true) (b : goodCa
 -- a refusal other than 12
 unfoldable other : Reading → Bool
 other (accepted k) = true
-other (refusedAt e j) = leb (number e) 11
+other (refusedAt e j) = not (eqb (number e) 12)
+
+other-unless : (t : Bool) (e : Refusal) (j : ℕ) (o : Edited) (next : Book → Reading) → not (eqb (number e) 12) ≡ true
+    → other (onRow j o next) ≡ true → other (onRow j (unless t e o) next) ≡ true
+unfolding other
+other-unless true e j o next g h = h
+other-unless false e j o next g h = g
 
 other-row : (k : Book) (w : Row) (j : ℕ) (next : Book → Reading) → ((k₁ : Book) → other (next k₁) ≡ true) → other (onRow j (withRow k w) next) ≡ true
-unfolding other withRow
+unfolding withRow
 other-row k w j next h =
-    byTest (goodMinutes (w .minutes))
-    (λ a. byTest (leb (w .mark) 1)
-    (λ b. byTest (goodList (k .m) (w .list))
-    (λ c. byTest (goodPlace (eqb (w .mark) 1) (w .place) (w .list)) (λ d. rw (a, b, c, d) (h _)) (λ d. rw (a, b, c, d)))
-    (λ c. rw (a, b, c)))
-    (λ b. rw (a, b)))
-    (λ a. rw a)
+    other-unless (goodMinutes (w .minutes)) badLength j _ next refl
+    (other-unless (leb (w .mark) 1) malformed j _ next refl
+    (other-unless (goodList (k .m) (w .list)) badList j _ next refl
+    (other-unless (ascending (w .list)) badOrder j _ next refl
+    (other-unless (goodPlace (eqb (w .mark) 1) (w .place) (w .list)) badPlace j _ next refl (h _)))))
 
 other-rows : (k : Book) (j : ℕ) (ws : List Row) → other (withRows k j ws) ≡ true
 unfolding other withRows
 other-rows k j [] = refl
 other-rows k j (w ∷ ws) = other-row k w j (λ k₁. withRows k₁ (suc j) ws) (λ k₁. other-rows k₁ (suc j) ws)
 
-other-none : (t : Bool) (e : Refusal) (o : Reading) → leb (number e) 11 ≡ true → other o ≡ true → other (orAtNone t e o) ≡ true
+other-none : (t : Bool) (e : Refusal) (o : Reading) → not (eqb (number e) 12) ≡ true → other o ≡ true → other (orAtNone t e o) ≡ true
 unfolding other
 other-none true e o g h = h
 other-none false e o g h = g
@@ -85,7 +89,7 @@ other-given m l =
 
 no-other {ℓ} : {Y : Type ℓ} {j : ℕ} (o : Reading) → o ≡ refusedAt badWorklist j → other o ≡ true → Y
 unfolding other
-no-other o e h = absurd (let g : leb 12 11 ≡ true = rw e at h in let z : _≡_ {A = ℕ} 0 1 = cc in omega arith)
+no-other o e h = absurd (let g : not (eqb 12 12) ≡ true = rw e at h in let z : _≡_ {A = ℕ} 0 1 = cc in omega arith)
 
 pub taken-fault : (m : ℕ) (l s : List ℕ) (j : ℕ) → taken m l s ≡ refusedAt badWorklist j → (i : ℕ) × (j ≡ suc i) × FaultAfter i s
 taken-fault m l s j e = by (given m l) refl (other-given m l) (sym (taken-is m l s) ∙ e)

@@ -1,4 +1,4 @@
--- The invariant: k of the instruments are in the row, and what is left goes on from them as the rules do. Then the LF and the place.
+-- The invariant: k of the instruments are in the row, and what is left goes on from them as the rules do. Then the order, the LF and the place.
 use Prim.Native.Nat.{ℕ, _+_, _-_, _≤_, _<_}
 use mathlib.Core.Path.{_≡_, refl, sym, ap, _∙_}
 use mathlib.Core.Bool.{Bool, true}
@@ -9,8 +9,8 @@ use lib.Dec.{leb, eqb}
 use lib.ListN.{length, take, drop}
 use lib.Seq.{getD-take}
 use Rattle.rules.specs.Fold.{_and_, mem, every}
-use Rattle.rules.specs.Refusal.{badPlace}
-use Rattle.rules.specs.Sheet.{Batch, isInstrument}
+use Rattle.rules.specs.Refusal.{badPlace, badOrder}
+use Rattle.rules.specs.Sheet.{Batch, isInstrument, ascending}
 use Rattle.rules.specs.Read.{Part, gives, orRefuse, numberAt, endOfLine, instrumentsAt, placeOr, goodPlace}
 use Rattle.theory.proofs.Member.{every-mem}
 use Rattle.theory.proofs.Parse.{instruments-ranged}
@@ -101,26 +101,37 @@ part c =
     let t = c .before in
     sym (t .loop .inv .3) ∙ list-done _ _ (t .loop .k) _ _ (c .loop-test .left) ∙ ap (λ (i : ℕ). gives (take i (t .loop .list)) (drop (t .loop .next) (text t))) (all-read c)
 
-part1 : (c : tie.After-loop Inv-loop μ-loop) →
+-- the rest of the line, after the list
+abbrev rest : tie.After-loop Inv-loop μ-loop → Part Batch
+rest c =
     let t = c .before in
-    whole (t .before .before) ≡ endOfLine (drop (t .loop .next) (text t)) (λ r. judged (t .before .before) (list-of c) r)
+    endOfLine (drop (t .loop .next) (text t)) (λ r. judged (t .before .before) (list-of c) r)
+
+part1 : (c : tie.After-loop Inv-loop μ-loop) → whole (c .before .before .before) ≡ orRefuse (ascending (list-of c)) badOrder (rest c)
 part1 c = rw (part c)
 
--- and the LF
-ends : (c : tie.Else3 Inv-loop μ-loop) → let t = c .before .before .before in endsLine (drop (t .loop .next) (text t)) ≡ true
-ends c = passed (c .before .ends-at .ensures) (c .if3 .left)
+-- it ascends
+part2 : (c : tie.Else3 Inv-loop μ-loop) → let d = c .before .before .before in whole (d .before .before .before) ≡ rest d
+part2 c = part1 (c .before .before .before) ∙ rw (passed (c .before .ascends .ensures) (c .if3 .left))
 
-part2 : (c : tie.Else3 Inv-loop μ-loop) →
-    let t = c .before .before .before in
-    whole (t .before .before) ≡ judged (t .before .before) (list-of (c .before .before)) (drop (t .loop .next + 1) (text t))
-part2 c = let t = c .before .before .before in part1 (c .before .before) ∙ end-there (text t) (t .loop .next) _ (ends c)
+-- and the LF
+abbrev ended : tie.Else4 Inv-loop μ-loop → tie.After-loop Inv-loop μ-loop
+ended c = c .before .before .before .before .before
+
+ends : (c : tie.Else4 Inv-loop μ-loop) → let t = ended c .before in endsLine (drop (t .loop .next) (text t)) ≡ true
+ends c = passed (c .before .ends-at .ensures) (c .if4 .left)
+
+part3 : (c : tie.Else4 Inv-loop μ-loop) →
+    let t = ended c .before in
+    whole (t .before .before) ≡ judged (t .before .before) (list-of (ended c)) (drop (t .loop .next + 1) (text t))
+part3 c = let t = ended c .before in part2 (c .before .before) ∙ end-there (text t) (t .loop .next) _ (ends c)
 
 -- the place taken, and whether it is listed
-abbrev good : tie.After-listed2 Inv-loop μ-loop → tie.Else3 Inv-loop μ-loop
+abbrev good : tie.After-listed2 Inv-loop μ-loop → tie.Else4 Inv-loop μ-loop
 good c = c .before .before .before
 
 abbrev done : tie.After-listed2 Inv-loop μ-loop → tie.After-loop Inv-loop μ-loop
-done c = good c .before .before
+done c = ended (good c)
 
 chosen : (c : tie.After-listed2 Inv-loop μ-loop) →
     let b = done c .before .before .before in
@@ -144,14 +155,14 @@ instruments : (c : tie.After-loop Inv-loop μ-loop) → every (isInstrument (c .
 instruments c = instruments-ranged _ _ _ _ _ (part c)
 
 -- it is the rules' where it is listed
-place-is : (c : tie.Else4 Inv-loop μ-loop) →
+place-is : (c : tie.Else5 Inv-loop μ-loop) →
     let d = done (c .before) in
     c .before .before .before .place-or .result ≡ placeOr (d .before .before .before .args .place) (list-of d)
 place-is c =
     let l = c .before in
     let d = done l in
     let b = d .before .before .before in
-    chosen l ∙ place-taken (begun b) (b .args .m) (b .args .place) (list-of d) (instruments d) (passed (test l) (c .if4 .left))
+    chosen l ∙ place-taken (begun b) (b .args .m) (b .args .place) (list-of d) (instruments d) (passed (test l) (c .if5 .left))
 
 loop-holds : tie.Need-loop-holds Inv-loop μ-loop
 loop-holds c = (omega arith, omega arith, record { size = refl; rest = refl }, list-start _ _ _ _)
@@ -234,17 +245,31 @@ loop-again c =
           (sym (list-more _ _ _ _ _ (more r) _ _ (x-read r .number) (ranged g) (sym (c .before .listed .ensures) ∙ c .if2 .left)) ∙ t .loop .inv .3),
     )
 
-ends-at-requires : tie.Need-ends-at-requires Inv-loop μ-loop
-ends-at-requires c κs = search needs
+slice-aggregate-ascends : tie.Need-slice-aggregate-ascends Inv-loop μ-loop
+slice-aggregate-ascends c = search needs
+
+ascends-requires : tie.Need-ascends-requires Inv-loop μ-loop
+ascends-requires c κs = omega (arith, c .before .before .loop .inv .2 .size, few (c .before))
 
 refused-requires-4 : tie.Need-refused-requires-4 Inv-loop μ-loop
 refused-requires-4 c κs = search needs
 
 returns-4 : tie.Need-returns-4 Inv-loop μ-loop
 returns-4 c =
+    let a = c .before .before in
+    rw (part1 (a .before .before), failed (a .ascends .ensures) (c .before .if3 .taken)) (c .refused4 .ensures)
+
+ends-at-requires : tie.Need-ends-at-requires Inv-loop μ-loop
+ends-at-requires c κs = search needs
+
+refused-requires-5 : tie.Need-refused-requires-5 Inv-loop μ-loop
+refused-requires-5 c κs = search needs
+
+returns-5 : tie.Need-returns-5 Inv-loop μ-loop
+returns-5 c =
     let e = c .before .before in
-    let t = e .before .before in
-    rw (part1 (e .before), end-missing (text t) (t .loop .next) _ (failed (e .ends-at .ensures) (c .before .if3 .taken))) (c .refused4 .ensures)
+    let t = e .before .before .before .before .before in
+    rw (part2 (e .before), end-missing (text t) (t .loop .next) _ (failed (e .ends-at .ensures) (c .before .if4 .taken))) (c .refused5 .ensures)
 
 array-read-place-or : tie.Need-array-read-place-or Inv-loop μ-loop
 array-read-place-or c = search needs
@@ -256,38 +281,38 @@ slice-aggregate-listed-2 : tie.Need-slice-aggregate-listed-2 Inv-loop μ-loop
 slice-aggregate-listed-2 c = search needs
 
 listed-requires-2 : tie.Need-listed-requires-2 Inv-loop μ-loop
-listed-requires-2 c κs = let t = c .before .before .before .before .before in omega (arith, t .loop .inv .2 .size, t .before .before .pre)
+listed-requires-2 c κs = let t = ended (c .before .before) .before in omega (arith, t .loop .inv .2 .size, t .before .before .pre)
 
-refused-requires-5 : tie.Need-refused-requires-5 Inv-loop μ-loop
-refused-requires-5 c κs = search needs
-
-returns-5 : tie.Need-returns-5 Inv-loop μ-loop
-returns-5 c =
-    let l = c .before .before in
-    rw (part2 (good l), failed (test l) (c .before .if4 .taken)) (c .refused5 .ensures)
-
-cast-t32 : tie.Need-cast-t32 Inv-loop μ-loop
-cast-t32 c =
-    let l = c .before in
-    let b = done l .before .before .before in
-    let e = every-mem (isInstrument (b .args .m)) (list-of (done l)) _ (instruments (done l)) (passed (l .listed2 .ensures) (c .if4 .left)) in
-    omega (arith, instrument-most (b .args .m) _ e, b .pre)
-
-cast-t37 : tie.Need-cast-t37 Inv-loop μ-loop
-cast-t37 c = search needs
-
-add-t39 : tie.Need-add-t39 Inv-loop μ-loop
-add-t39 c =
-    let t = done (c .before) .before in
-    omega (arith, end-room (text t) (t .loop .next) (ends (good (c .before))))
+refused-requires-6 : tie.Need-refused-requires-6 Inv-loop μ-loop
+refused-requires-6 c κs = search needs
 
 returns-6 : tie.Need-returns-6 Inv-loop μ-loop
 returns-6 c =
+    let l = c .before .before in
+    rw (part3 (good l), failed (test l) (c .before .if5 .taken)) (c .refused6 .ensures)
+
+cast-t35 : tie.Need-cast-t35 Inv-loop μ-loop
+cast-t35 c =
+    let l = c .before in
+    let b = done l .before .before .before in
+    let e = every-mem (isInstrument (b .args .m)) (list-of (done l)) _ (instruments (done l)) (passed (l .listed2 .ensures) (c .if5 .left)) in
+    omega (arith, instrument-most (b .args .m) _ e, b .pre)
+
+cast-t40 : tie.Need-cast-t40 Inv-loop μ-loop
+cast-t40 c = search needs
+
+add-t42 : tie.Need-add-t42 Inv-loop μ-loop
+add-t42 c =
+    let t = done (c .before) .before in
+    omega (arith, end-room (text t) (t .loop .next) (ends (good (c .before))))
+
+returns-7 : tie.Need-returns-7 Inv-loop μ-loop
+returns-7 c =
     let l = c .before in
     let t = done l .before in
     rw (
-      part2 (good l),
-      passed (test l) (c .if4 .left),
+      part3 (good l),
+      passed (test l) (c .if5 .left),
       ← place-is c,
       mark-said (t .before .before .args .started) (t .before .before .pre .2),
       padded-list (done l),
@@ -320,16 +345,20 @@ line-list-spec =
     add-k
     loop-less
     loop-again
-    ends-at-requires
+    slice-aggregate-ascends
+    ascends-requires
     refused-requires-4
     returns-4
+    ends-at-requires
+    refused-requires-5
+    returns-5
     array-read-place-or
     place-or-requires
     slice-aggregate-listed-2
     listed-requires-2
-    refused-requires-5
-    returns-5
-    cast-t32
-    cast-t37
-    add-t39
-    returns-6)
+    refused-requires-6
+    returns-6
+    cast-t35
+    cast-t40
+    add-t42
+    returns-7)
