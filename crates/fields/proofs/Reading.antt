@@ -15,23 +15,13 @@ use Rattle.rules.specs.Field.{value, blank, fault, field}
 use Rattle.rules.specs.Field as F
 use Rattle.rules.specs.Read.{Part, gives, refuses, orRefuse, fieldPart, numberAt, blankZero, placeAt, endOfLine}
 use Rattle.theory.proofs.Logic.{byTest, conflict}
-use Rattle.theory.proofs.Field.{six-columns}
+use Rattle.theory.proofs.Field.{six, six-place}
 use Rattle.fields.specs.declared.Field.{Field}
 use Rattle.fields.specs.declared.Field.the-variants.{Value}
 use Rattle.fields.specs.Columns.{codedField, endsLine}
 use Rattle.fields.proofs.Field.{the-type}
 
 -- ---- the field at a place
-
--- a number is read only from six columns
-pub six : (r : List ℕ) (v : ℕ) → field r ≡ value v → 6 ≤ length r
-six r v e = six-columns r (value v) e (λ f. let z : _≡_ {A = ℕ} 0 1 = cc in omega arith) .0
-
--- and so is a place
-pub six-place : (r : List ℕ) (g : F.Field) → field r ≡ g → (v : ℕ) → blankZero g ≡ value v → 6 ≤ length r
-six-place r (value w) e v q = six r w e
-six-place r blank e v q = six-columns r blank e (λ f. let z : _≡_ {A = ℕ} 0 1 = cc in omega arith) .0
-six-place r fault e v q = absurd (let z : _≡_ {A = ℕ} 0 1 = cc in omega arith)
 
 -- the part p gives a number v, at at, and what follows it is still in s
 pub record NumberRead (p : Part ℕ) (s : List ℕ) (at v : ℕ) : Type 0 where

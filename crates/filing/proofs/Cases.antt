@@ -18,7 +18,7 @@ use Rattle.rules.specs.Filed.{Filed, leftDue, filed, filedWith}
 use Rattle.theory.proofs.Logic.{byTest}
 use Rattle.sheet.specs.declared.Refusal.the-variants.{BufferShort}
 use Rattle.sheet.specs.declared.Refusal.the-variants as E
-use Rattle.sheet.proofs.PartsRead.{coded-none}
+use Rattle.sheet.proofs.Refusals.{coded-none}
 use Rattle.text.specs.declared.Hosted as D
 use Rattle.text.specs.Answer.{hostedOf}
 use Rattle.moves.specs.declared.Change.{Change}

@@ -6,9 +6,9 @@ ghost use Rattle.filing.specs.Filed.{noBalance, noSettle, BalanceFilingI
 use calls::cores::balance_for;
 use calls::cores::settle_for;
 use moves::Change;
+use reading::read;
 use sheet::Refusal;
 use sheet::code;
-use sheet::read::read;
 use written::write::write;
 
 // What balance answers: the refusal's number, 0 for none, and its line, 0 for none and for 9; how many bytes the sheet that it leaves has;

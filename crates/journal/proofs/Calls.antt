@@ -15,7 +15,7 @@ use Rattle.rules.specs.Edit.{add, withdraw, requalify, move, start}
 use Rattle.rules.specs.Run.{Call, editing, reviewing, trying, balancing, settling}
 use Rattle.rules.specs.Journal.{numbersAt, listAt, addAt, withdrawAt, requalifyAt, moveAt, trialAt, balanceAt, settleAt, startAt, callAt, callLine}
 use Rattle.theory.proofs.Logic.{conflict}
-use Rattle.fields.proofs.Reading.{six}
+use Rattle.theory.proofs.Field.{six}
 use Rattle.journal.specs.declared.entry.Entry.{Entry}
 use Rattle.journal.specs.declared.entry.KeptList.{KeptList}
 use Rattle.journal.specs.Entry.{entryWith, entryOf, noEntry, entryAs, keptAs, oneNumber, twoNumbers, numberAndList, numbersAs}

@@ -15,8 +15,7 @@ use Rattle.rules.specs.Run.{Call}
 use Rattle.rules.specs.Lent.{text, Hosted, intoBuffer}
 use Rattle.rules.specs.Journal.{Journal, runDue, answerText, runHost}
 use Rattle.theory.proofs.Logic.{byTest}
-use Rattle.sheet.proofs.Accepted.{refused-line}
-use Rattle.sheet.proofs.Bytes.{read-bounded}
+use Rattle.theory.proofs.Bytes.{refused-line, read-bounded}
 use Rattle.theory.proofs.Fields.{line-length}
 use Rattle.text.specs.declared.Hosted as C
 use Rattle.text.specs.Answer.{hostedOf}

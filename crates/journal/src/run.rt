@@ -14,10 +14,10 @@ use crate::answer::put_answer;
 use crate::call::make;
 use crate::entry::entry_at;
 use crate::entry::fault_line;
+use reading::read;
 use sheet::Refusal;
 use sheet::Sheet;
 use sheet::code;
-use sheet::read::read;
 use text::Hosted;
 
 // What a sheet's bytes and a journal's come to: a sheet, or a refusal with its line and the blank value.

@@ -22,8 +22,7 @@ use Rattle.text.specs.Answer.{hostedOf}
 use Rattle.theory.proofs.Fields.{line-length}
 use Rattle.listing.proofs.Lines.{listing-length}
 use Rattle.listing.proofs.Planned.{SmallFigures, plan-fits}
-use Rattle.sheet.proofs.Bytes.{read-bounded}
-use Rattle.sheet.proofs.Accepted.{refused-line}
+use Rattle.theory.proofs.Bytes.{read-bounded, refused-line}
 
 -- a line of 43 bytes, one of at most 151, and 200 of 19
 pub longest-listing : (k : Book) → sound k ≡ true → length (listing k (planBook k)) ≤ 3994

@@ -8,10 +8,10 @@ use crate::plan::plan;
 use crate::rows::Figures;
 use crate::rows::listing_length;
 use crate::rows::put_listing;
+use reading::read;
 use sheet::Refusal;
 use sheet::Sheet;
 use sheet::code;
-use sheet::read::read;
 use text::Hosted;
 
 // Plans a sheet, and writes its listing at the front of `out` where that is long enough.

@@ -5,14 +5,10 @@ pub mod Scan
 pub mod Shift
 pub mod Change
 pub mod SoundArrays
+pub mod Refusals
 pub mod Edits
+pub mod Place
 pub mod Rows
-pub mod Lines
-pub mod Extent
-pub mod Bytes
-pub mod PartsRead
-pub mod CalibrationsRead
-pub mod BatchesRead
 pub mod Keeps
 pub mod Accepted
 pub mod Answered

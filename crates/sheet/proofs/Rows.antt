@@ -20,10 +20,10 @@ use Rattle.theory.proofs.Worklist.{rowBatch, withRow, given}
 use Rattle.sheet.specs.declared.Sheet.{Sheet}
 use Rattle.sheet.specs.declared.Refusal.the-variants.{Nothing, Malformed, BadLength, BadPlace}
 use Rattle.sheet.specs.declared.Refusal.{Refusal}
-use Rattle.sheet.specs.Represent.{padded, sheetOf, bookOf, Sound, appended}
+use Rattle.sheet.specs.Represent.{padded, sheetOf, bookOf, Sound, appended, empty}
 use Rattle.sheet.specs.Answers.{editedAs, readAs}
 use Rattle.sheet.proofs.Represent.{append-law}
-use Rattle.sheet.proofs.Lines.{taken, place-listed, place-taken}
+use Rattle.sheet.proofs.Place.{taken, place-listed, place-taken}
 use Rattle.sheet.proofs.SoundArrays.{book-m, book-size, few-instruments, narrow-book, good-long}
 use Rattle.sheet.specs.Change.{unfit}
 use Rattle.sheet.proofs.Edits.{said, row-front, Fit, unfit-first}
@@ -97,16 +97,7 @@ pub bare-is : (m : ℕ) (l : List ℕ) → goodInstruments m ≡ true → goodCa
     → readAs (given m l) ≡ record {
       refusal = Nothing;
       line = 0;
-      sheet = record {
-        m = m;
-        n = 0;
-        calibrations = padded 24 l;
-        minutes = replicate 200 0;
-        places = replicate 200 0;
-        started = replicate 200 0;
-        counts = replicate 200 0;
-        lists = replicate 4800 0;
-      };
+      sheet = empty m (padded 24 l);
     }
 unfolding given sheetOf
 bare-is m l a b = rw (a, b)

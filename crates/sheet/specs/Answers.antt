@@ -83,6 +83,10 @@ abbrev pub readAs : D.Reading → Reading
 readAs (D.accepted k) = record { refusal = Nothing; line = 0; sheet = sheetOf k }
 readAs (D.refusedAt e j) = record { refusal = coded e; line = j; sheet = blank }
 
+-- a refusal: no sheet
+abbrev pub unread : Refusal → ℕ → Reading
+unread e j = record { refusal = e; line = j; sheet = blank }
+
 -- what reading promises, and taking a worklist, likewise: its answer is the rules' o
 pub record ReadAnswered (o : D.Reading) (r : Reading) : Type 0 where
   pub is : r ≡ readAs o

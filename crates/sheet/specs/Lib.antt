@@ -1,5 +1,4 @@
 pub mod Represent
 pub mod Answers
 pub mod Change
-pub mod Lines
 pub mod View

@@ -70,15 +70,19 @@ appended s t p v c row = record {
   lists = paste (s .lists) (s .n * 24) row 24;
 }
 
--- the value in the sheet's place where there is none
-abbrev pub blank : Sheet
-blank = record {
-  m = 0;
+-- the arrays of a sheet of m instruments with these calibrations, and no batch
+abbrev pub empty : ℕ → List ℕ → Sheet
+empty m calibrations = record {
+  m = m;
   n = 0;
-  calibrations = replicate 24 0;
+  calibrations = calibrations;
   minutes = replicate 200 0;
   places = replicate 200 0;
   started = replicate 200 0;
   counts = replicate 200 0;
   lists = replicate 4800 0;
 }
+
+-- the value in the sheet's place where there is none
+abbrev pub blank : Sheet
+blank = empty 0 (replicate 24 0)

@@ -1,5 +1,4 @@
-// The sheet: m instruments with their calibrations, and up to 200 batches, read from a file and edited. A sheet goes in by value and comes
-// back.
+// The sheet: m instruments with their calibrations, and up to 200 batches, and its edits. A sheet goes in by value and comes back.
 ghost use mathlib.Core.Path.{_≡_};
 ghost use mathlib.Core.Bool.{not};
 ghost use Prim.Native.Nat.{ℕ, _+_, _<_, _≤_};
@@ -9,11 +8,11 @@ ghost use lib.Seq.{paste};
 ghost use Rattle.rules.specs.Fold.{_and_, mem, pick};
 ghost use Rattle.rules.specs.Sheet.{ascending};
 ghost use Rattle.rules.specs.Edit.{kept};
-ghost use Rattle.sheet.specs.Represent.{padded, appended, blank};
-ghost use Rattle.sheet.specs.Answers.{numberOf};
+ghost use Rattle.sheet.specs.Represent.{padded, appended, empty, blank};
+ghost use Rattle.sheet.specs.Answers.{numberOf, unread};
 
+pub mod bare;
 pub mod edit;
-pub mod read;
 pub mod view;
 
 // The documents' refusals, by name; Nothing is none.
@@ -107,8 +106,25 @@ impl Sheet {
         }
     }
 
+    // A sheet of m instruments with these calibrations, and no batch yet.
+    pub fn empty(m: usize, calibrations: [u8; 24]) -> Self
+        ensures { λ r. ⌜ r ≡ empty m calibrations ⌝ }
+    {
+        let mut sheet = Sheet::new();
+        sheet.m = m;
+        sheet.calibrations = calibrations;
+        sheet
+    }
+
     // One batch more, the last; its list stands at the front of row.
-    fn appended(mut self, minutes: u16, place: u8, started: u8, count: u8, row: [u8; 24]) -> Sheet
+    pub fn appended(
+        mut self,
+        minutes: u16,
+        place: u8,
+        started: u8,
+        count: u8,
+        row: [u8; 24],
+    ) -> Sheet
         requires { ⌜ self .n < 200 ⌝ }
         ensures { λ r. ⌜ r ≡ appended self minutes place started count row ⌝ }
     {
@@ -125,6 +141,18 @@ impl Sheet {
     }
 }
 
+// A sheet that is refused at a line: the blank value stands in the sheet's place.
+pub fn refused_at(refusal: Refusal, line: usize) -> Reading
+    ensures { λ r. ⌜ r ≡ unread refusal line ⌝ }
+{
+    let sheet = Sheet::new();
+    Reading {
+        refusal,
+        line,
+        sheet,
+    }
+}
+
 // The count entries from at on become the first of part.
 fn enter_part(a: &mut [u8], at: usize, part: &[u8], count: usize)
     requires { ⌜ at + count ≤ length (now a) ⌝ ∗ ⌜ count ≤ length (now part) ⌝ }
@@ -138,7 +166,7 @@ fn enter_part(a: &mut [u8], at: usize, part: &[u8], count: usize)
 }
 
 // The count entries from from on name x.
-fn listed(lists: &[u8], from: usize, count: usize, x: u32) -> bool
+pub fn listed(lists: &[u8], from: usize, count: usize, x: u32) -> bool
     requires { ⌜ from + count ≤ length (now lists) ⌝ }
     ensures { λ r. ⌜ r ≡ mem x (take count (drop from (now (lists .entry)))) ⌝ }
 {
@@ -154,7 +182,7 @@ fn listed(lists: &[u8], from: usize, count: usize, x: u32) -> bool
 }
 
 // None of the first count entries is smaller than the one before it.
-fn ascends(list: &[u8], count: usize) -> bool
+pub fn ascends(list: &[u8], count: usize) -> bool
     requires { ⌜ count ≤ length (now list) ⌝ }
     ensures { λ r. ⌜ r ≡ ascending (take count (now (list .entry))) ⌝ }
 {
@@ -182,7 +210,7 @@ fn kept_in(lists: &[u8], from: usize, count: usize, place: u8) -> u8
 }
 
 // x is one of 1 to k.
-fn within(x: usize, k: usize) -> bool
+pub fn within(x: usize, k: usize) -> bool
     ensures { λ r. ⌜ r ≡ leb 1 x and leb x k ⌝ }
 {
     if x == 0 {
@@ -206,7 +234,7 @@ fn row_of(list: &[u32]) -> [u8; 24]
 }
 
 // The place p, or the first listed where p is 0 and the batch has not started.
-fn place_or(p: u32, started: u8, first: u8) -> u32
+pub fn place_or(p: u32, started: u8, first: u8) -> u32
     ensures { λ r. ⌜ r ≡ pick (not (eqb started 1) and eqb p 0) first p ⌝ }
 {
     if started == 1 {

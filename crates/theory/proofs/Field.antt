@@ -11,6 +11,7 @@ use lib.Dec.{leb, ltb, eqb}
 use borrow.Author.Tests.{leb-true, ltb-true, ltb-false, eqb-true, eqb-false, le-leb, lt-ltb, le-ltb, ne-eqb}
 use Rattle.rules.specs.Fold.{pick, _and_}
 use Rattle.rules.specs.Field.{Field, value, blank, fault, isDigit, digits, loneZero, blanks, field}
+use Rattle.rules.specs.Read.{blankZero}
 use Rattle.rules.specs.Render.{columns}
 use Rattle.theory.proofs.Logic.{byTest, conflict, and-left, and-right, and-mk}
 
@@ -253,3 +254,13 @@ field-blank r e =
     let k = six-columns r blank e no-blank in
     let n : length (take 6 r) ≡ 6 = length-take-le 6 r (k .0) in
     front-is r (replicate 6 32) (blanks-blank (take 6 r) (k .1) ∙ ap (λ (w : ℕ). replicate w 32) n)
+
+-- a number is read only from six columns
+pub six : (r : List ℕ) (v : ℕ) → field r ≡ value v → 6 ≤ length r
+six r v e = six-columns r (value v) e no-value .0
+
+-- and so is a place
+pub six-place : (r : List ℕ) (g : Field) → field r ≡ g → (v : ℕ) → blankZero g ≡ value v → 6 ≤ length r
+six-place r (value w) e v q = six r w e
+six-place r blank e v q = six-columns r blank e no-blank .0
+six-place r fault e v q = absurd (let z : _≡_ {A = ℕ} 0 1 = cc in omega arith)

@@ -36,6 +36,8 @@ pub mod Quiet
 pub mod Balancing
 pub mod Field
 pub mod Fields
+pub mod Extent
+pub mod Bytes
 pub mod Format
 pub mod Parse
 pub mod Sound

@@ -16,7 +16,7 @@ use Rattle.rules.specs.Grammar.{Ends}
 use Rattle.rules.specs.Worklist.{Row, Worklist, rows, faultyRow, worklist, sheetSaying, byRow, orAtNone, takenRows, taken}
 use Rattle.theory.proofs.Worklist.{bare, withRow, onRow, withRows, given, onGiven, rowsOn}
 use Rattle.theory.proofs.Taken.{taken-is, taken-reads}
-use Rattle.sheet.proofs.Accepted.{refused-line}
+use Rattle.theory.proofs.Bytes.{refused-line}
 use Rattle.worklist.proofs.File.{worklist-same}
 use Rattle.worklist.proofs.Outcome.{Says, FaultAfter, Answers, answer, says-read, fault-read, shorter}
 

@@ -17,12 +17,11 @@ use Rattle.sheet.specs.declared.Reading.{Reading}
 use Rattle.sheet.specs.declared.Refusal.{Refusal}
 use Rattle.sheet.specs.declared.Refusal.the-variants.{Nothing}
 use Rattle.sheet.specs.Represent.{Sound, firsts, bookOf, sheetOf}
-use Rattle.sheet.specs.Answers.{editedAs, readAs}
-use Rattle.sheet.specs.Lines.{unread}
+use Rattle.sheet.specs.Answers.{editedAs, readAs, unread}
 use Rattle.sheet.proofs.Represent.{book-sheet, sheet-sound}
 use Rattle.sheet.proofs.Firsts.{firsts-few, firsts-long, firsts-front}
 use Rattle.sheet.proofs.SoundArrays.{book-m, few-instruments}
-use Rattle.sheet.proofs.PartsRead.{coded-none}
+use Rattle.sheet.proofs.Refusals.{coded-none}
 use Rattle.worklist.specs.declared.row.Row as C
 use Rattle.worklist.specs.Rows.{Front, gives, rowAt, rowsFrom, rowsRead}
 use Rattle.worklist.specs.Read.{rowAs, rowsAs}

@@ -14,8 +14,7 @@ use Rattle.theory.proofs.Taken.{taken-is}
 use Rattle.sheet.specs.declared.Reading.{Reading}
 use Rattle.sheet.specs.declared.Refusal.the-variants.{Nothing, BadSize, BadWorklist}
 use Rattle.sheet.specs.Represent.{bookOf}
-use Rattle.sheet.specs.Answers.{readAs}
-use Rattle.sheet.specs.Lines.{unread}
+use Rattle.sheet.specs.Answers.{readAs, unread}
 use Rattle.sheet.proofs.Accepted.{Accepted, or-accepted}
 use Rattle.worklist.specs.declared.row.Rows.{Rows}
 use Rattle.worklist.specs.Read.{rowsAs}

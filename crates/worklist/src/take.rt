@@ -13,7 +13,7 @@ use crate::row::rows_in;
 use sheet::Reading;
 use sheet::Refusal;
 use sheet::Sheet;
-use sheet::read::refused_at;
+use sheet::refused_at;
 
 // The sheet, which has no batch yet, with the file's rows entered, or the refusal of the first row that is no batch of it.
 fn enter(mut sheet: Sheet, s: &[u8]) -> Reading

@@ -12,7 +12,7 @@ use Rattle.rules.specs.Journal.{calls, journal, sheetText, writeHost}
 use Rattle.theory.proofs.Rewrite.{most-written}
 use Rattle.theory.proofs.Runs.{after-sound}
 use Rattle.theory.proofs.Sound.{read-sound}
-use Rattle.sheet.proofs.Bytes.{read-bounded}
+use Rattle.theory.proofs.Bytes.{read-bounded}
 use Rattle.text.proofs.Answer.{into-long}
 use Rattle.journal.proofs.Hosting.{journal-numbered}
 use Rattle.journal.proofs.Printing.{Modest, due-modest}

@@ -1,6 +1,6 @@
 -- A sheet that is refused, a journal that is, and neither.
 use mathlib.Core.Path.{sym, _∙_}
-use Rattle.sheet.proofs.PartsRead.{some-refusal}
+use Rattle.sheet.proofs.Refusals.{some-refusal}
 use Rattle.rules.specs.Read.{read}
 use Rattle.sheet.proofs.Accepted.{Accepted, is-accepted, Refused, is-refused}
 use Rattle.journal.specs.Running.{bookBefore, judgedOf}

@@ -1,6 +1,6 @@
 -- The sheet that reading hands on is sound, and a refusal is the rules'.
 use mathlib.Core.Path.{_∙_}
-use Rattle.sheet.proofs.PartsRead.{some-refusal}
+use Rattle.sheet.proofs.Refusals.{some-refusal}
 use Rattle.rules.specs.Read.{read}
 use Rattle.sheet.proofs.Accepted.{Accepted, is-accepted, Refused, is-refused}
 use Rattle.listing.proofs.Hosting.{host-refused, host-listed}

@@ -6,7 +6,7 @@ use lib.ListN.{length}
 use borrow.Author.Needs.{needs}
 use Rattle.sheet.specs.declared.edit.ListRow.{ListRow}
 use Rattle.sheet.specs.Represent.{padded}
-use Rattle.sheet.proofs.PartsRead.{some-refusal}
+use Rattle.sheet.proofs.Refusals.{some-refusal}
 use Rattle.sheet.proofs.Answered.{edit-answered}
 use Rattle.sheet.proofs.SoundArrays.{few-instruments, few-batches, index, good-long, row-fits}
 use Rattle.sheet.proofs.Edits.{Fit, is-fit, Free, is-free, requalify-none, requalify-unfit, requalify-done}

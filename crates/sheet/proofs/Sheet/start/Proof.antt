@@ -4,7 +4,7 @@ use native.Mathlib.Omega.{arith}
 use mathlib.Core.Path.{_≡_}
 use lib.ListN.{length}
 use borrow.Author.Needs.{needs}
-use Rattle.sheet.proofs.PartsRead.{some-refusal}
+use Rattle.sheet.proofs.Refusals.{some-refusal}
 use Rattle.sheet.proofs.Answered.{edit-answered}
 use Rattle.sheet.proofs.SoundArrays.{few-batches, index}
 use Rattle.sheet.proofs.Edits.{Free, is-free, start-none, start-done}

@@ -14,10 +14,10 @@ use Rattle.theory.proofs.Member.{every-mem}
 use Rattle.sheet.specs.declared.edit.ListRow.{ListRow}
 use Rattle.sheet.specs.Represent.{padded}
 use Rattle.sheet.proofs.Scan.{failed, passed, in-range}
-use Rattle.sheet.proofs.Lines.{instrument-most}
+use Rattle.sheet.proofs.Place.{instrument-most}
 use Rattle.sheet.proofs.SoundArrays.{book-size, few-instruments, row-fits}
 use Rattle.sheet.proofs.Padded.{length-padded}
-use Rattle.sheet.proofs.PartsRead.{some-refusal}
+use Rattle.sheet.proofs.Refusals.{some-refusal}
 use Rattle.sheet.proofs.Edits.{row-front, Fit, is-fit}
 use Rattle.sheet.proofs.Rows.{row-length, row-mark, row-unfit, row-place, row-done}
 use Rattle.sheet.proofs.Sheet.with_row.Statement.{statement}

@@ -8,7 +8,7 @@ use lib.Seq.{length-take-le}
 use Rattle.rules.specs.Worklist.{worklist}
 use Rattle.theory.proofs.Worklist.{rowsOn}
 use Rattle.sheet.specs.Represent.{bookOf}
-use Rattle.sheet.proofs.PartsRead.{some-refusal}
+use Rattle.sheet.proofs.Refusals.{some-refusal}
 use Rattle.worklist.proofs.Entering.{Entering, entering-start, few, wide, roomy, further, row-refused, row-entered, entered}
 use Rattle.worklist.proofs.take.enter.Statement.{statement}
 use Rattle.worklist.proofs.take.enter.Tie as tie

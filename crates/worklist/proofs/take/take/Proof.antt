@@ -4,7 +4,7 @@ use native.Mathlib.Omega.{arith}
 use borrow.Author.Needs.{needs}
 use Rattle.sheet.specs.declared.Refusal.the-variants.{Nothing}
 use Rattle.sheet.specs.Answers.{readAs}
-use Rattle.sheet.proofs.PartsRead.{some-refusal}
+use Rattle.sheet.proofs.Refusals.{some-refusal}
 use Rattle.sheet.proofs.Answered.{read-answered}
 use Rattle.worklist.proofs.Taking.{host-refused, good, empty, from-there, form-refused, no-fault, few, many-refused}
 use Rattle.worklist.proofs.take.take.Statement.{statement}

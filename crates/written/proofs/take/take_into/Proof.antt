@@ -2,7 +2,7 @@
 use mathlib.Core.Path.{_∙_}
 use Rattle.rules.specs.Worklist.{taken}
 use Rattle.theory.proofs.Taken.{taken-sound}
-use Rattle.sheet.proofs.PartsRead.{some-refusal}
+use Rattle.sheet.proofs.Refusals.{some-refusal}
 use Rattle.sheet.proofs.Accepted.{Accepted, or-accepted, is-refused}
 use Rattle.written.proofs.Taken.{take-refused, take-written}
 use borrow.Author.Needs.{needs}

@@ -1,0 +1,4 @@
+pub mod Lines
+pub mod PartsRead
+pub mod CalibrationsRead
+pub mod BatchesRead
