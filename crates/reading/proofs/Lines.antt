@@ -10,12 +10,15 @@ use lib.ListN.{length, set, take, drop, replicate, length-set, take-append-drop}
 use lib.Seq.{drop-drop, drop-set-lt, length-take-le, take-suc-set}
 use borrow.Author.Tests.{ne-eqb}
 use Rattle.rules.specs.Fold.{pick, _and_, _or_, mem, every}
-use Rattle.rules.specs.Refusal.{malformed, badList}
-use Rattle.rules.specs.Sheet.{isInstrument, head}
-use Rattle.rules.specs.Read.{gives, refuses, andThen, orRefuse, numberAt, instrumentsAt, placeOr, goodPlace}
+use Rattle.rules.specs.Refusal.{malformed, badList, badOrder}
+use Rattle.rules.specs.Sheet.{Batch, isInstrument}
+use Rattle.rules.specs.Read.{Part, gives, refuses, andThen, orRefuse, numberAt, instrumentsAt}
 use Rattle.theory.proofs.Logic.{byTest, and-no-right, or-left, or-skip}
 use Rattle.theory.proofs.Member.{mem-head, every-mem}
+use Rattle.sheet.specs.declared.Refusal.{Refusal}
+use Rattle.sheet.specs.declared.Refusal.the-variants.{Nothing}
 use Rattle.sheet.specs.Represent.{padded}
+use Rattle.reading.specs.Lines.{noLine, lineAs, badEnd}
 use Rattle.sheet.proofs.Scan.{in-range}
 
 -- ---- a row of 24 entries with k used
@@ -77,3 +80,18 @@ list-start m c l r = let e : c - 0 ≡ c = omega arith in rw e
 pub list-done : (m c k : ℕ) (l r : List ℕ) → c ≤ k → instrumentsAt m (c - k) l r ≡ gives l r
 unfolding instrumentsAt
 list-done m c k l r h = let e : c - k ≡ 0 = omega arith in rw e
+
+-- ---- the end of a line
+
+-- it ends well
+pub well-ended : (o t : Bool) {r : Refusal} → r ≡ badEnd o t → r ≡ Nothing → (o ≡ true) × (t ≡ true)
+well-ended true true q h = (refl, refl)
+well-ended true false q h = absurd (let z : _≡_ {A = ℕ} 0 1 = cc in omega arith)
+well-ended false t q h = absurd (let z : _≡_ {A = ℕ} 0 1 = cc in omega arith)
+
+-- or is refused, where there is an LF or not
+pub badly-ended : (w j : ℕ) (o t : Bool) (p : Part Batch) {r : Refusal} → r ≡ badEnd o t → (r ≡ Nothing → ⊥) → (t ≡ false → p ≡ refuses malformed)
+    → noLine r j ≡ lineAs w j (orRefuse o badOrder p)
+badly-ended w j true true p q h f = absurd (h q)
+badly-ended w j true false p q h f = ap (λ (x : Refusal). noLine x j) q ∙ ap (lineAs w j) (sym (f refl))
+badly-ended w j false t p q h f = ap (λ (x : Refusal). noLine x j) q

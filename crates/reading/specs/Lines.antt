@@ -3,12 +3,13 @@ use Prim.Native.Nat.{ℕ, _-_}
 use mathlib.Core.Bool.{Bool}
 use mathlib.Core.List.{List, []}
 use lib.ListN.{length, replicate}
+use Rattle.rules.specs.Fold.{pick}
 use Rattle.rules.specs.Refusal.{badPlace, badOrder}
 use Rattle.rules.specs.Sheet.{Batch, ascending}
 use Rattle.rules.specs.Read.{Part, gives, refuses, andThen, orRefuse, endOfLine, instrumentsAt, placeOr, goodPlace}
 use Rattle.rules.specs.Render.{mark}
 use Rattle.sheet.specs.declared.Refusal.{Refusal}
-use Rattle.sheet.specs.declared.Refusal.the-variants.{Nothing}
+use Rattle.sheet.specs.declared.Refusal.the-variants.{Nothing, Malformed, BadOrder}
 use Rattle.reading.specs.declared.Calibrated.{Calibrated}
 use Rattle.reading.specs.declared.Line.{Line}
 use Rattle.sheet.specs.Represent.{padded}
@@ -49,6 +50,10 @@ lineAs w j (gives b r) = record {
   next = w - length r;
 }
 lineAs w j (refuses e) = noLine (coded e) j
+
+-- why a line may not end behind a list that ascends or not, where there is an LF or not
+abbrev pub badEnd : Bool → Bool → Refusal
+badEnd ordered ended = pick ordered (pick ended Nothing Malformed) BadOrder
 
 -- a batch line of t minutes, place p and mark s, from its list of c instruments on
 abbrev pub lineList : ℕ → ℕ → ℕ → Bool → ℕ → List ℕ → Part Batch

@@ -4,9 +4,11 @@ ghost use mathlib.Core.List.{[]};
 ghost use Prim.Native.Nat.{_≤_, _<_};
 ghost use lib.Dec.{eqb};
 ghost use lib.ListN.{length, take, drop};
+ghost use Rattle.rules.specs.Sheet.{ascending};
 ghost use Rattle.rules.specs.Read.{calibrationLine, batchLine, batchLines, linesAfter, read as reading};
+ghost use Rattle.fields.specs.Columns.{endsLine};
 ghost use Rattle.sheet.specs.Represent.{padded, empty};
-ghost use Rattle.reading.specs.Lines.{noCalibrations, calibratedAs, noLine, lineAs, lineList};
+ghost use Rattle.reading.specs.Lines.{noCalibrations, calibratedAs, noLine, lineAs, badEnd, lineList};
 ghost use Rattle.sheet.specs.Answers.{readAs, ReadAnswered};
 use fields::Field;
 use fields::ends_at;
@@ -101,6 +103,23 @@ impl Line {
     }
 }
 
+// Why a batch line may not end at at, after a list that has its instruments at its front: they do not ascend, or there is no LF; Nothing
+// where it may.
+fn end_refusal(s: &[u8], at: usize, list: &[u8], count: usize) -> Refusal
+    requires { ⌜ (at ≤ length (now s)) × (count ≤ length (now list)) ⌝ }
+    ensures { λ r. ⌜ r ≡ badEnd (ascending (take count (now (list .entry)))) (endsLine (drop at (now (s .entry)))) ⌝ }
+{
+    let ordered = ascends(list, count);
+    let ended = ends_at(s, at);
+    if !ordered {
+        return Refusal::BadOrder;
+    }
+    if !ended {
+        return Refusal::Malformed;
+    }
+    Refusal::Nothing
+}
+
 // A batch line from its list on: the instruments, each judged at its own field, their order, the LF, and then the place, for which the
 // first listed is taken where it is 0 and the batch has not started.
 fn line_list(
@@ -133,12 +152,10 @@ fn line_list(
         next += 6;
         k += 1;
     }
-    if !ascends(&list, count) {
-        return Line::refused(Refusal::BadOrder, line);
-    }
-    if !ends_at(s, next) {
-        return Line::refused(Refusal::Malformed, line);
-    }
+    let e = end_refusal(s, next, &list, count);
+    let Refusal::Nothing = e else {
+        return Line::refused(e, line);
+    };
     let p = place_or(place, started, list[0]);
     if !listed(&list, 0, count, p) {
         return Line::refused(Refusal::BadPlace, line);

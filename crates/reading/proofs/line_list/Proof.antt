@@ -17,10 +17,11 @@ use Rattle.theory.proofs.Parse.{instruments-ranged}
 use Rattle.theory.proofs.Format.{mark-said}
 use Rattle.sheet.specs.Represent.{padded}
 use Rattle.fields.specs.Columns.{endsLine}
-use Rattle.reading.specs.Lines.{lineList}
+use Rattle.reading.specs.Lines.{lineAs, lineList}
 use Rattle.fields.proofs.Reading.{NumberRead, field-number, field-none, end-room, end-missing, end-there, next-at}
-use Rattle.reading.proofs.Lines.{Row, row-used, row-padded, row-more, row-take, list-missing, list-strange, list-again, list-more, list-start, list-done}
+use Rattle.reading.proofs.Lines.{Row, row-used, row-padded, row-more, row-take, list-missing, list-strange, list-again, list-more, list-start, list-done, well-ended, badly-ended}
 use Rattle.sheet.proofs.Place.{taken, place-listed, place-taken, instrument-most}
+use Rattle.sheet.proofs.Refusals.{some-refusal}
 use Rattle.sheet.proofs.Scan.{failed, passed, in-range}
 use Rattle.reading.proofs.line_list.Statement.{statement}
 use Rattle.reading.proofs.line_list.Tie as tie
@@ -111,24 +112,22 @@ rest c =
 part1 : (c : tie.After-loop Inv-loop μ-loop) → whole (c .before .before .before) ≡ orRefuse (ascending (list-of c)) badOrder (rest c)
 part1 c = rw (part c)
 
--- it ascends
-part2 : (c : tie.Else3 Inv-loop μ-loop) → let d = c .before .before .before in whole (d .before .before .before) ≡ rest d
-part2 c = part1 (c .before .before .before) ∙ rw (passed (c .before .ascends .ensures) (c .if3 .left))
+-- it ascends, and the LF is there
+abbrev ended : tie.After-enum-told Inv-loop μ-loop → tie.After-loop Inv-loop μ-loop
+ended c = c .before .before .before .before
 
--- and the LF
-abbrev ended : tie.Else4 Inv-loop μ-loop → tie.After-loop Inv-loop μ-loop
-ended c = c .before .before .before .before .before
+ends : (c : tie.After-enum-told Inv-loop μ-loop) →
+    let d = ended c in
+    (ascending (list-of d) ≡ true) × (endsLine (drop (d .before .loop .next) (text (d .before))) ≡ true)
+ends c = well-ended _ _ (c .before .before .end-refusal .ensures) (c .enum-told .given .1)
 
-ends : (c : tie.Else4 Inv-loop μ-loop) → let t = ended c .before in endsLine (drop (t .loop .next) (text t)) ≡ true
-ends c = passed (c .before .ends-at .ensures) (c .if4 .left)
-
-part3 : (c : tie.Else4 Inv-loop μ-loop) →
+part2 : (c : tie.After-enum-told Inv-loop μ-loop) →
     let t = ended c .before in
     whole (t .before .before) ≡ judged (t .before .before) (list-of (ended c)) (drop (t .loop .next + 1) (text t))
-part3 c = let t = ended c .before in part2 (c .before .before) ∙ end-there (text t) (t .loop .next) _ (ends c)
+part2 c = let t = ended c .before in part1 (ended c) ∙ rw (ends c .0) (end-there (text t) (t .loop .next) _ (ends c .1))
 
 -- the place taken, and whether it is listed
-abbrev good : tie.After-listed2 Inv-loop μ-loop → tie.Else4 Inv-loop μ-loop
+abbrev good : tie.After-listed2 Inv-loop μ-loop → tie.After-enum-told Inv-loop μ-loop
 good c = c .before .before .before
 
 abbrev done : tie.After-listed2 Inv-loop μ-loop → tie.After-loop Inv-loop μ-loop
@@ -156,14 +155,14 @@ instruments : (c : tie.After-loop Inv-loop μ-loop) → every (isInstrument (c .
 instruments c = instruments-ranged _ _ _ _ _ (part c)
 
 -- it is the rules' where it is listed
-place-is : (c : tie.Else5 Inv-loop μ-loop) →
+place-is : (c : tie.Else3 Inv-loop μ-loop) →
     let d = done (c .before) in
     c .before .before .before .place-or .result ≡ placeOr (d .before .before .before .args .place) (list-of d)
 place-is c =
     let l = c .before in
     let d = done l in
     let b = d .before .before .before in
-    chosen l ∙ place-taken (begun b) (b .args .m) (b .args .place) (list-of d) (instruments d) (passed (test l) (c .if5 .left))
+    chosen l ∙ place-taken (begun b) (b .args .m) (b .args .place) (list-of d) (instruments d) (passed (test l) (c .if3 .left))
 
 loop-holds : tie.Need-loop-holds Inv-loop μ-loop
 loop-holds c = (omega arith, omega arith, record { size = refl; rest = refl }, list-start _ _ _ _)
@@ -246,31 +245,28 @@ loop-again c =
           (sym (list-more _ _ _ _ _ (more r) _ _ (x-read r .number) (ranged g) (sym (c .before .listed .ensures) ∙ c .if2 .left)) ∙ t .loop .inv .3),
     )
 
-slice-aggregate-ascends : tie.Need-slice-aggregate-ascends Inv-loop μ-loop
-slice-aggregate-ascends c = search needs
+slice-aggregate-end-refusal : tie.Need-slice-aggregate-end-refusal Inv-loop μ-loop
+slice-aggregate-end-refusal c = search needs
 
-ascends-requires : tie.Need-ascends-requires Inv-loop μ-loop
-ascends-requires c κs = omega (arith, c .before .before .loop .inv .2 .size, few (c .before))
+end-refusal-requires : tie.Need-end-refusal-requires Inv-loop μ-loop
+end-refusal-requires c κs =
+    let t = c .before .before in
+    (t .loop .inv .1, omega (arith, t .loop .inv .2 .size, few (c .before)))
+
+enum-told : tie.Need-enum-told Inv-loop μ-loop
+enum-told c = search needs
 
 refused-requires-4 : tie.Need-refused-requires-4 Inv-loop μ-loop
 refused-requires-4 c κs = search needs
 
 returns-4 : tie.Need-returns-4 Inv-loop μ-loop
 returns-4 c =
-    let a = c .before .before in
-    rw (part1 (a .before .before), failed (a .ascends .ensures) (c .before .if3 .taken)) (c .refused4 .ensures)
-
-ends-at-requires : tie.Need-ends-at-requires Inv-loop μ-loop
-ends-at-requires c κs = search needs
-
-refused-requires-5 : tie.Need-refused-requires-5 Inv-loop μ-loop
-refused-requires-5 c κs = search needs
-
-returns-5 : tie.Need-returns-5 Inv-loop μ-loop
-returns-5 c =
     let e = c .before .before in
-    let t = e .before .before .before .before .before in
-    rw (part2 (e .before), end-missing (text t) (t .loop .next) _ (failed (e .ends-at .ensures) (c .before .if4 .taken))) (c .refused5 .ensures)
+    let d = e .before .before in
+    let t = d .before in
+    c .refused4 .ensures
+    ∙ badly-ended (length (text t)) _ (ascending (list-of d)) _ (rest d) (e .end-refusal .ensures) (some-refusal _ (c .before .match2 .keys2)) (end-missing (text t) (t .loop .next) _)
+    ∙ ap (lineAs (length (text t)) (t .before .before .args .line)) (sym (part1 d))
 
 array-read-place-or : tie.Need-array-read-place-or Inv-loop μ-loop
 array-read-place-or c = search needs
@@ -284,41 +280,41 @@ slice-aggregate-listed-2 c = search needs
 listed-requires-2 : tie.Need-listed-requires-2 Inv-loop μ-loop
 listed-requires-2 c κs = let t = ended (c .before .before) .before in omega (arith, t .loop .inv .2 .size, t .before .before .pre)
 
-refused-requires-6 : tie.Need-refused-requires-6 Inv-loop μ-loop
-refused-requires-6 c κs = search needs
+refused-requires-5 : tie.Need-refused-requires-5 Inv-loop μ-loop
+refused-requires-5 c κs = search needs
+
+returns-5 : tie.Need-returns-5 Inv-loop μ-loop
+returns-5 c =
+    let l = c .before .before in
+    rw (part2 (good l), failed (test l) (c .before .if3 .taken)) (c .refused5 .ensures)
+
+cast-t32 : tie.Need-cast-t32 Inv-loop μ-loop
+cast-t32 c =
+    let l = c .before in
+    let b = done l .before .before .before in
+    let e = every-mem (isInstrument (b .args .m)) (list-of (done l)) _ (instruments (done l)) (passed (l .listed2 .ensures) (c .if3 .left)) in
+    omega (arith, instrument-most (b .args .m) _ e, b .pre)
+
+cast-t39 : tie.Need-cast-t39 Inv-loop μ-loop
+cast-t39 c = search needs
+
+add-t41 : tie.Need-add-t41 Inv-loop μ-loop
+add-t41 c =
+    let t = done (c .before) .before in
+    omega (arith, end-room (text t) (t .loop .next) (ends (good (c .before)) .1))
 
 returns-6 : tie.Need-returns-6 Inv-loop μ-loop
 returns-6 c =
-    let l = c .before .before in
-    rw (part3 (good l), failed (test l) (c .before .if5 .taken)) (c .refused6 .ensures)
-
-cast-t35 : tie.Need-cast-t35 Inv-loop μ-loop
-cast-t35 c =
-    let l = c .before in
-    let b = done l .before .before .before in
-    let e = every-mem (isInstrument (b .args .m)) (list-of (done l)) _ (instruments (done l)) (passed (l .listed2 .ensures) (c .if5 .left)) in
-    omega (arith, instrument-most (b .args .m) _ e, b .pre)
-
-cast-t40 : tie.Need-cast-t40 Inv-loop μ-loop
-cast-t40 c = search needs
-
-add-t42 : tie.Need-add-t42 Inv-loop μ-loop
-add-t42 c =
-    let t = done (c .before) .before in
-    omega (arith, end-room (text t) (t .loop .next) (ends (good (c .before))))
-
-returns-7 : tie.Need-returns-7 Inv-loop μ-loop
-returns-7 c =
     let l = c .before in
     let t = done l .before in
     rw (
-      part3 (good l),
-      passed (test l) (c .if5 .left),
+      part2 (good l),
+      passed (test l) (c .if3 .left),
       ← place-is c,
       mark-said (t .before .before .args .started) (t .before .before .pre .2),
       padded-list (done l),
       list-size (done l),
-      ← next-at (text t) (t .loop .next + 1) (end-room (text t) (t .loop .next) (ends (good l))),
+      ← next-at (text t) (t .loop .next + 1) (end-room (text t) (t .loop .next) (ends (good l) .1)),
     )
 
 pub line-list-spec : {M : Type 1} → statement M
@@ -346,20 +342,18 @@ line-list-spec =
     add-k
     loop-less
     loop-again
-    slice-aggregate-ascends
-    ascends-requires
+    slice-aggregate-end-refusal
+    end-refusal-requires
+    enum-told
     refused-requires-4
     returns-4
-    ends-at-requires
-    refused-requires-5
-    returns-5
     array-read-place-or
     place-or-requires
     slice-aggregate-listed-2
     listed-requires-2
-    refused-requires-6
-    returns-6
-    cast-t35
-    cast-t40
-    add-t42
-    returns-7)
+    refused-requires-5
+    returns-5
+    cast-t32
+    cast-t39
+    add-t41
+    returns-6)
