@@ -32,6 +32,7 @@ static const char *words(uint32_t refusal)
     case BANKPLAN_BAD_PLACE: return "place not in the list, or none for a started batch";
     case BANKPLAN_BUFFER_SHORT: return "buffer too short";
     case BANKPLAN_BAD_CALIBRATION: return "calibration out of range";
+    case BANKPLAN_BAD_ORDER: return "list of qualified instruments does not ascend";
     case BANKPLAN_BAD_JOURNAL: return "not of a journal's form";
     default: return "unknown refusal";
     }

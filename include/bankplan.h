@@ -63,9 +63,9 @@ extern "C" {
 #define BANKPLAN_LARGEST_SHEET 33958
 
 /*
- * Refusals. 1 to 5 and 10 are those of a sheet, and come with the line. 12 is that of a worklist, and comes with the row; its batches get 1
- * and 3 to 5 with theirs, and 2 and 10 come without one there. 3 to 9 and 11 are those of a single call of a journal: they stand in its answers, and the run goes on. 9 and 19
- * are the host's own.
+ * Refusals. 1 to 5, 10 and 13 are those of a sheet, and come with the line. 12 is that of a worklist, and comes with the row; its batches get
+ * 1, 3 to 5 and 13 with theirs, and 2 and 10 come without one there. 3 to 9, 11 and 13 are those of a single call of a journal: they stand in
+ * its answers, and the run goes on. 9 and 19 are the host's own.
  */
 enum bankplan_refusal {
     BANKPLAN_NO_REFUSAL = 0,
@@ -82,14 +82,15 @@ enum bankplan_refusal {
     BANKPLAN_BAD_CALIBRATION = 10, /* a calibration that is not 0 to 240 minutes, or not one for each instrument of a worklist */
     BANKPLAN_HAS_STARTED = 11,     /* the batch to withdraw, requalify, move or start has started */
     BANKPLAN_BAD_WORKLIST = 12,    /* the worklist is not of RFC 4180, or a row has not four fields of the form */
+    BANKPLAN_BAD_ORDER = 13,       /* a listed instrument smaller than the one before it */
     BANKPLAN_BAD_JOURNAL = 19      /* the journal is not of its form */
 };
 
 /* What bankplan_plan, bankplan_run, bankplan_write and bankplan_take answer. */
 typedef struct bankplan_answer {
-    uint32_t refusal; /* 0 for none, 1 to 5, 9, or 10; with a journal also 19, with a worklist also 12 */
-    size_t line;      /* the sheet's line of refusals 1 to 5 and 10, the journal's of 19, both from 1; otherwise 0. With a worklist the
-                         row of refusals 1, 3 to 5 and 12, from 1 and for 12 maybe far above 200; otherwise 0 */
+    uint32_t refusal; /* 0 for none, 1 to 5, 9, 10, or 13; with a journal also 19, with a worklist also 12 */
+    size_t line;      /* the sheet's line of refusals 1 to 5, 10 and 13, the journal's of 19, both from 1; otherwise 0. With a worklist the
+                         row of refusals 1, 3 to 5, 12 and 13, from 1 and for 12 maybe far above 200; otherwise 0 */
     size_t length;    /* the bytes written; 0 on a refusal */
 } bankplan_answer;
 
@@ -129,8 +130,8 @@ typedef struct bankplan_settled {
  * Plans a sheet, and writes its listing at the front of the lent buffer.
  *
  * A sheet: line 1 has the numbers of instruments and of batches. Line 2 has each instrument's calibration in minutes, 0 for none. Then
- * each batch has a line: its length in minutes, its place (0 or six blanks: the first listed instrument), its mark (1 where it has started,
- * otherwise 0), how many instruments are qualified, and those. A started batch has its place given. Nothing follows the last line.
+ * each batch has a line: its length in minutes, its place (0 or six blanks: the lowest qualified instrument), its mark (1 where it has started,
+ * otherwise 0), how many instruments are qualified, and those, ascending. A started batch has its place given. Nothing follows the last line.
  *
  * A listing: line 1 has the finish, the floor that no plan can beat, the level, raises and bumps of the trial kept, and the settling
  * moves. Line 2 has the size and the instruments of the group of the highest level that failed, or 0 where none failed; where the floor is
@@ -139,8 +140,9 @@ typedef struct bankplan_settled {
  * Planning is to balance, and to settle straight after: the finish and the settling moves are those of settle, the rest of lines 1 and 2
  * that of balance.
  *
- * The first fault in the sheet decides which of 1 to 5 or 10 is answered; 9 comes only for a sheet without a fault. A sheet without line 2,
- * as it was before there were calibrations, is refused, and so is one whose batches have no marks.
+ * The first fault in the sheet decides which of 1 to 5, 10 or 13 is answered; 13 is judged when the whole list has passed 4, before the end
+ * of its line. 9 comes only for a sheet without a fault. A sheet without line 2, as it was before there were calibrations, is refused, and so
+ * is one whose batches have no marks, or lists in another order.
  */
 bankplan_answer bankplan_plan(const uint8_t *sheet, size_t sheet_length, uint8_t *listing, size_t listing_length);
 
@@ -150,9 +152,9 @@ bankplan_answer bankplan_plan(const uint8_t *sheet, size_t sheet_length, uint8_t
  *
  * A journal has a line for each call, with the call's kind and then its numbers. It may be empty.
  *
- *   1 LENGTH COUNT INSTRUMENT..   add a batch, placed on the first listed instrument
+ *   1 LENGTH COUNT INSTRUMENT..   add a batch, placed on the lowest qualified instrument
  *   2 BATCH                       withdraw a batch; later batches move down by one
- *   3 BATCH COUNT INSTRUMENT..    requalify a batch; its place stays if it is listed, otherwise it is the first listed
+ *   3 BATCH COUNT INSTRUMENT..    requalify a batch; its place stays if it is listed, otherwise it is the lowest listed
  *   4 BATCH INSTRUMENT            move a batch
  *   5                             review
  *   6 LEVEL                       a single trial; the sheet stays as it is
@@ -174,9 +176,9 @@ bankplan_answer bankplan_plan(const uint8_t *sheet, size_t sheet_length, uint8_t
  *   8        0 FINISH MOVES COUNT BATCH FROM TO..   the settling moves, in twelve columns; how many records, and those
  *   9        0
  *
- * The order of refusals: 1 to 5 or 10 for the sheet, then 19 for the journal, then 9. A journal is judged whole before its first call is
- * made. On 9, call again with a larger buffer: the answers are the same. Within one call: add 7, 3, 4; withdraw and start 6, 11; requalify
- * 6, 11, 4; move 6, 11, 5.
+ * The order of refusals: 1 to 5, 10 or 13 for the sheet, then 19 for the journal, then 9. A journal is judged whole before its first call is
+ * made. On 9, call again with a larger buffer: the answers are the same. Within one call: add 7, 3, 4, 13; withdraw and start 6, 11;
+ * requalify 6, 11, 4, 13; move 6, 11, 5.
  *
  * Two lines of kinds 3, 4 or 9 that stand next to each other and name different batches may change places: each has the same answer, a
  * refusal too, and the sheet left is the same. So two journals of such lines, with no batch in both, may be joined in any way that keeps the
@@ -190,9 +192,9 @@ bankplan_answer bankplan_run(const uint8_t *sheet, size_t sheet_length, const ui
  * journal writes the sheet back.
  *
  * The written sheet is one that can be read, and reading it gives the very sheet that the calls left, so the next journal may start
- * from it. Every place is the true one, never 0 or blank, and lists keep their order, those of started batches too; line 2 is that of the
- * sheet that was read. A sheet written back has as many bytes as the one that was read, and differs from it at most in places that were 0
- * or blank.
+ * from it. Every place is the true one, never 0 or blank, and lists ascend, those of started batches too; line 2 is that of the sheet that
+ * was read. A sheet written back has as many bytes as the one that was read, and differs from it at most in places that were 0 or blank. Two
+ * written sheets have equal bytes if they have the same contents, and only then.
  *
  * Refusals and their order are those of bankplan_run. A call of the journal that is refused leaves the sheet as it was, and the run goes
  * on; only bankplan_run's answers tell which one it was.
@@ -208,7 +210,7 @@ bankplan_answer bankplan_write(const uint8_t *sheet, size_t sheet_length, const 
  * with a batch or a calibration above 0 it is above that of any plan on qualified instruments by less than the longest of them. Such a plan
  * leaves started batches where they are.
  *
- * The order of refusals: 1 to 5 or 10 for the sheet; then 9 where the list has fewer entries than the sheet has batches, however many
+ * The order of refusals: 1 to 5, 10 or 13 for the sheet; then 9 where the list has fewer entries than the sheet has batches, however many
  * records there are; then 9 where the buffer is shorter than the written sheet.
  */
 bankplan_balanced bankplan_balance(const uint8_t *sheet, size_t sheet_length, bankplan_move *moves, size_t moves_length,
@@ -233,7 +235,7 @@ bankplan_settled bankplan_settle(const uint8_t *sheet, size_t sheet_length, bank
  *   LENGTH,PLACE,MARK,LIST        30,1,0,"1,2"    30 minutes, on instrument 1, not started, for instruments 1 and 2
  *
  * These are what they are in a sheet's line, but for the list, which has no count and is its instruments with commas between them: one at
- * least. The place may be empty or 0: the first listed instrument. A number is one to six digits, and only 0 itself starts with 0. Any
+ * least, ascending. The place may be empty or 0: the lowest listed instrument. A number is one to six digits, and only 0 itself starts with 0. Any
  * field may stand in quotes, and a list of more than one must. Spaces, signs and all else are no part of a number. Rows end in CRLF, which
  * the last may leave out. An empty file counts as a row whose only field is empty: no worklist is without a batch.
  *
@@ -241,9 +243,9 @@ bankplan_settled bankplan_settle(const uint8_t *sheet, size_t sheet_length, bank
  *
  * The order of refusals: 2 for instruments that are not 1 to 24; 10 for a calibration above 240, or if there are not as many as
  * instruments; 12 at the first row that is not of the form, whichever it is; 2 for more than 200 rows; then row by row, as in a sheet's
- * line, 3 for the length, 1 for a mark above 1, 4 for the list, 5 for the place; then 9. Both 2s, 10 and 9 have line 0. The whole file is
- * judged for 12 first: 12 at row 202 comes before 2 for more than 200 rows, and before 3 at row 1. A list of any length is of the form, and
- * 4 where it has more instruments than there are.
+ * line, 3 for the length, 1 for a mark above 1, 4 for the list, 13 for its order, 5 for the place; then 9. Both 2s, 10 and 9 have line 0. The
+ * whole file is judged for 12 first: 12 at row 202 comes before 2 for more than 200 rows, and before 3 at row 1. A list of any length is of the
+ * form, and 4 where it has more instruments than there are.
  */
 bankplan_answer bankplan_take(uint32_t instruments, const uint32_t *calibrations, size_t calibrations_length,
                               const uint8_t *worklist, size_t worklist_length, uint8_t *sheet, size_t sheet_length);
