@@ -134,6 +134,8 @@ sed '3s/,"0"//' "$top/examples/worklist.csv" >short.csv
 refused_by take "take: short.csv: row 3: not of a worklist's form" short.csv 0 0
 sed '2s/20/0/' "$top/examples/worklist.csv" >length.csv
 refused_by take "take: length.csv: row 2: refusal 3" length.csv 0 0
+sed '3s/"1,2"/"2,1"/' "$top/examples/worklist.csv" >order.csv
+refused_by take "take: order.csv: row 3: refusal 13" order.csv 0 0
 refused_by take "take: $top/examples/worklist.csv: row 1: refusal 4" "$top/examples/worklist.csv" 0
 refused_by take "take: $top/examples/worklist.csv: refusal 10" "$top/examples/worklist.csv" 0 241
 refused_by take "take: none.csv: No such file or directory" none.csv 0 0

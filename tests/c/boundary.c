@@ -177,10 +177,15 @@ static const bankplan_move fourth_goes[] = {{4, 3, 1}};
 static const char unsettled[] = "     2     4\n"
                                 "     0     0\n"
                                 "     2     2     0     1     2\n"
-                                "     4     1     0     2     2     1\n"
-                                "     5     1     0     2     2     1\n"
+                                "     4     1     0     2     1     2\n"
+                                "     5     1     0     2     1     2\n"
                                 "     2     2     0     2     1     2\n";
 static const bankplan_move two_go[] = {{2, 1, 2}, {4, 2, 1}};
+/* its list does not ascend */
+static const char unordered[] = "     2     1\n"
+                                "     0     0\n"
+                                "    10     1     0     2     2     1\n";
+enum { NOT_ASCENDING = 13 };
 /* says what the first sheet says */
 static const char worklist[] = "30,1,0,\"1,2\"\r\n"
                                "\"20\",,0,1\r\n"
@@ -196,8 +201,16 @@ static void sheets(void)
     CHECK(answered(plan("    25     0\n", ROOM), BANKPLAN_BAD_SIZE, 1, 0) && holds(""));
     CHECK(answered(plan("     2     1\n     0     0\n    10     0     0     2     1     1\n", ROOM), BANKPLAN_BAD_LIST, 3, 0) && holds(""));
     CHECK(answered(plan("     2     1\n     0     0\n    10     2     0     1     1\n", ROOM), BANKPLAN_BAD_PLACE, 3, 0) && holds(""));
-    /* a blank place is none given; five blanks, and a blank elsewhere, are not of the form */
-    CHECK(answered(plan("     2     1\n     0     0\n    10           0     2     2     1\n", ROOM), 0, 0, 43 + 7 + 19) &&
+    /* a list that does not ascend, after the whole list and before the LF and the place */
+    CHECK(answered(plan(unordered, ROOM), NOT_ASCENDING, 3, 0) && holds(""));
+    CHECK(answered(plan("     2     1\n     0     0\n    10     9     0     2     2     1", ROOM), NOT_ASCENDING, 3, 0) && holds(""));
+    CHECK(answered(plan("     2     1\n     0     0\n    10     1     0     2     2     2\n", ROOM), BANKPLAN_BAD_LIST, 3, 0) && holds(""));
+    CHECK(answered(write_back(unordered, "", 0), NOT_ASCENDING, 3, 0) && holds(""));
+    CHECK(answered(run(unordered, "     5\n", ROOM), NOT_ASCENDING, 3, 0) && holds(""));
+    CHECK(refused_balance(balance(unordered, ENTRIES, ROOM), NOT_ASCENDING, 3));
+    CHECK(refused_settle(settle(unordered, 0, 0), NOT_ASCENDING, 3));
+    /* a blank place is none given: the lowest; five blanks, and a blank elsewhere, are not of the form */
+    CHECK(answered(plan("     3     1\n     0     0     0\n    10           0     2     2     3\n", ROOM), 0, 0, 43 + 7 + 19) &&
           holds("    10    10     0     0     0           0\n     0\n     1     2    10\n"));
     CHECK(answered(plan("     2     1\n     0     0\n    10     ", ROOM), BANKPLAN_MALFORMED, 3, 0) && holds(""));
     CHECK(answered(plan("     2     1\n     0     0\n           1     0     1     1\n", ROOM), BANKPLAN_MALFORMED, 3, 0) && holds(""));
@@ -216,10 +229,13 @@ static void written_sheets(void)
     /* no batch is left */
     CHECK(answered(write_back(sheet, "     2     3\n     2     2\n     2     1\n", ROOM), 0, 0, 26) &&
           holds("     2     0\n     0     0\n"));
-    /* places that are 0 or blank are filled in, and lists keep their order */
-    CHECK(answered(write_back("     2     2\n     0   240\n    10           0     2     2     1\n    15     0     0     1     1\n", "", ROOM), 0, 0,
+    /* places that are 0 or blank are filled in with the lowest listed */
+    CHECK(answered(write_back("     2     2\n     0   240\n    10           0     2     1     2\n    15     0     0     1     2\n", "", ROOM), 0, 0,
                    13 + 13 + 37 + 31) &&
-          holds("     2     2\n     0   240\n    10     2     0     2     2     1\n    15     1     0     1     1\n"));
+          holds("     2     2\n     0   240\n    10     1     0     2     1     2\n    15     2     0     1     2\n"));
+    /* edits with lists that do not ascend are refused and change nothing */
+    CHECK(answered(write_back(sheet, "     1    15     2     2     1\n     3     1     2     2     1\n", ROOM), 0, 0, strlen(sheet)) && holds(sheet));
+    CHECK(answered(run(sheet, "     1    15     2     2     1\n     3     1     2     2     1\n", ROOM), 0, 0, 14) && holds("    13\n    13\n"));
 }
 
 /* Line 2 at its edges, and what calibrations count for. */
@@ -278,7 +294,7 @@ static void started(void)
     static const char all[] = "     2     2\n"
                               "     0     0\n"
                               "    30     1     1     2     1     2\n"
-                              "    10     1     1     2     2     1\n";
+                              "    10     1     1     2     1     2\n";
     static const char bad[] = "     2     1\n     0     0\n    10     1     2     0\n";
     static const char none[] = "     2     1\n     0     0\n    10     0     1     1     1\n";
     bankplan_balanced b;
@@ -328,7 +344,7 @@ static void started(void)
 static void worklists(void)
 {
     static const uint32_t most[] = {240, 7, 241}, first[] = {241, 0}, last[] = {0, UINT32_MAX};
-    static const uint8_t row[] = "30,,0,\"2,1\"";
+    static const uint8_t row[] = "30,,0,\"1,2\"";
     static const uint8_t zero[] = {'3', '0', ',', ',', '0', ',', '1', 0};
     static char rows[201 * 10 + 3];
     size_t i;
@@ -355,6 +371,8 @@ static void worklists(void)
     CHECK(answered(take(2, "0,9,2,3", ROOM), BANKPLAN_BAD_LENGTH, 1, 0) && holds(""));
     CHECK(answered(take(2, "30,9,2,3", ROOM), BANKPLAN_MALFORMED, 1, 0) && holds(""));
     CHECK(answered(take(2, "30,9,0,3", ROOM), BANKPLAN_BAD_LIST, 1, 0) && holds(""));
+    CHECK(answered(take(2, "30,9,0,\"2,1,1\"", ROOM), BANKPLAN_BAD_LIST, 1, 0) && holds(""));
+    CHECK(answered(take(2, "30,9,0,\"2,1\"", ROOM), NOT_ASCENDING, 1, 0) && holds(""));
     CHECK(answered(take(2, "30,1,0,1\r\n30,2,0,1", ROOM), BANKPLAN_BAD_PLACE, 2, 0) && holds(""));
     CHECK(answered(take(2, "30,1,0,1\r\n30,,1,1", ROOM), BANKPLAN_BAD_PLACE, 2, 0) && holds(""));
     CHECK(answered(take(2, "0,1,0,1\r\n30,1,0,1\r\n30", ROOM), BANKPLAN_BAD_WORKLIST, 3, 0) && holds(""));
@@ -378,7 +396,7 @@ static void worklists(void)
     CHECK(answered(bankplan_take(2, zeros, 1, row, sizeof row - 1, buffer, ROOM), BANKPLAN_BAD_CALIBRATION, 0, 0) && holds(""));
     CHECK(answered(bankplan_take(2, most, 3, row, sizeof row - 1, buffer, ROOM), BANKPLAN_BAD_CALIBRATION, 0, 0) && holds(""));
     CHECK(answered(bankplan_take(2, most, 2, row, sizeof row - 1, buffer, ROOM), 0, 0, 63) &&
-          holds("     2     1\n   240     7\n    30     2     0     2     2     1\n"));
+          holds("     2     1\n   240     7\n    30     1     0     2     1     2\n"));
 }
 
 static void short_buffers(void)
@@ -546,7 +564,7 @@ static void fill(char *to, int place, int mark)
     to += sprintf(to, "\n");
     for (batch = 1; batch <= BANKPLAN_MOST_BATCHES; batch++) {
         to += sprintf(to, "%6d%6d%6d%6d", BANKPLAN_MOST_MINUTES, place, mark, BANKPLAN_MOST_INSTRUMENTS);
-        for (instrument = BANKPLAN_MOST_INSTRUMENTS; instrument >= 1; instrument--)
+        for (instrument = 1; instrument <= BANKPLAN_MOST_INSTRUMENTS; instrument++)
             to += sprintf(to, "%6d", instrument);
         to += sprintf(to, "\n");
     }
@@ -559,8 +577,8 @@ static void fill_rows(char *to, int place, int mark)
 
     for (row = 1; row <= BANKPLAN_MOST_BATCHES; row++) {
         to += sprintf(to, "\"%d\",\"%d\",\"%d\",\"", BANKPLAN_MOST_MINUTES, place, mark);
-        for (instrument = BANKPLAN_MOST_INSTRUMENTS; instrument >= 1; instrument--)
-            to += sprintf(to, instrument == 1 ? "%d\"\r\n" : "%d,", instrument);
+        for (instrument = 1; instrument <= BANKPLAN_MOST_INSTRUMENTS; instrument++)
+            to += sprintf(to, instrument == BANKPLAN_MOST_INSTRUMENTS ? "%d\"\r\n" : "%d,", instrument);
     }
 }
 
@@ -578,7 +596,7 @@ static void largest(void)
     size_t line, i;
 
     fill(full, 0, 0);
-    fill(filled, BANKPLAN_MOST_INSTRUMENTS, 0);
+    fill(filled, 1, 0);
     CHECK(strlen(filled) == BANKPLAN_LARGEST_SHEET);
     CHECK(answered(plan(full, BANKPLAN_LARGEST_LISTING - 1), BANKPLAN_BUFFER_SHORT, 0, 0) && holds(""));
     CHECK(answered(plan(full, BANKPLAN_LARGEST_LISTING), 0, 0, BANKPLAN_LARGEST_LISTING));
@@ -622,12 +640,16 @@ static void largest(void)
     CHECK(answered(bankplan_take(BANKPLAN_MOST_INSTRUMENTS, longest, i, (const uint8_t *)rows, strlen(rows), buffer, BANKPLAN_LARGEST_SHEET - 1),
                    BANKPLAN_BUFFER_SHORT, 0, 0) &&
           holds(""));
-    /* the last list with an instrument twice, and with one too many */
-    strcpy(rows + strlen(rows) - 4, "2\"\r\n");
+    /* the last list out of order, with an instrument twice, and with one too many */
+    strcpy(rows + strlen(rows) - 8, "24,23\"\r\n");
+    CHECK(answered(bankplan_take(BANKPLAN_MOST_INSTRUMENTS, longest, i, (const uint8_t *)rows, strlen(rows), buffer, ROOM), NOT_ASCENDING,
+                   BANKPLAN_MOST_BATCHES, 0) &&
+          holds(""));
+    strcpy(rows + strlen(rows) - 8, "23,23\"\r\n");
     CHECK(answered(bankplan_take(BANKPLAN_MOST_INSTRUMENTS, longest, i, (const uint8_t *)rows, strlen(rows), buffer, ROOM), BANKPLAN_BAD_LIST,
                    BANKPLAN_MOST_BATCHES, 0) &&
           holds(""));
-    strcpy(rows + strlen(rows) - 4, "1,1\"");
+    strcpy(rows + strlen(rows) - 5, "24,25\"");
     CHECK(answered(bankplan_take(BANKPLAN_MOST_INSTRUMENTS, longest, i, (const uint8_t *)rows, strlen(rows), buffer, ROOM), BANKPLAN_BAD_LIST,
                    BANKPLAN_MOST_BATCHES, 0) &&
           holds(""));

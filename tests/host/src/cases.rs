@@ -100,7 +100,7 @@ pub fn damaged(seed: u64, count: usize) -> Vec<Case> {
     (0..count).map(case).collect()
 }
 
-/// A place for this list: left blank, 0, the first listed or the last; and a mark
+/// A place for this list: left blank, 0, the lowest listed or the highest; and a mark
 /// that goes with it.
 fn place(rng: &mut Rng, list: &[u32]) -> (Option<u32>, u32) {
     let place = *rng.pick(&[None, Some(0), list.first().copied(), list.last().copied()]);
@@ -271,7 +271,7 @@ fn fault(rng: &mut Rng, draft: &mut Draft) -> Option<Change> {
     // A first fault may have spoilt the number of instruments.
     let m = draft.instruments.clamp(1, 24);
     let at = rng.below(draft.lines.len() as u64) as usize;
-    let kind = rng.below(25);
+    let kind = rng.below(29);
     let line = &mut draft.lines[at];
     if line.list.is_empty() {
         return Some(Change::Tail);
@@ -326,6 +326,16 @@ fn fault(rng: &mut Rng, draft: &mut Draft) -> Option<Change> {
         20 | 21 => {
             line.mark = 1;
             line.place = *rng.pick(&[None, Some(0)]);
+        }
+        22..=25 => {
+            line.list = gen::unordered_list(rng, m);
+            // At times with what comes after it, or before it.
+            match rng.below(6) {
+                0 => line.place = Some(m + 1),
+                1 => return Some(Change::End { line: at + 3 }),
+                2 => line.list.extend(line.list.first().copied()),
+                _ => {}
+            }
         }
         _ => {
             let k = rng.below(draft.calibrations.len() as u64) as usize;
@@ -657,7 +667,7 @@ fn list(rng: &mut Rng, sheet: &Sheet) -> Vec<u64> {
         .map(u64::from)
         .collect();
     let k = rng.below(list.len() as u64) as usize;
-    match rng.below(14) {
+    match rng.below(19) {
         0 => list.clear(),
         1 => list.insert(k, list[k]),
         2 => list.push(list[k]),
@@ -670,6 +680,16 @@ fn list(rng: &mut Rng, sheet: &Sheet) -> Vec<u64> {
             let most = if rng.once_in(8) { 255 } else { m + 4 };
             let longer = rng.within(m + 1, most);
             list = (0..longer as u64).map(|i| 1 + i % m as u64).collect();
+        }
+        8..=10 => {
+            let unordered = gen::unordered_list(rng, m);
+            list = unordered.into_iter().map(u64::from).collect();
+            // At times with a fault that comes before it.
+            match rng.below(6) {
+                0 => list.push(list[0]),
+                1 => list[0] = edge(rng, list[0]),
+                _ => {}
+            }
         }
         _ => {}
     }

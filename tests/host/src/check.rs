@@ -160,7 +160,7 @@ pub struct Judge<P> {
 }
 
 /// Calls by refusal number, 0 for none, and by kind of buffer.
-pub type Calls = [[usize; 8]; 11];
+pub type Calls = [[usize; 8]; 14];
 
 impl<P: Fn(&[u8], &mut [u8]) -> Hosted> Judge<P> {
     pub fn new(planner: P) -> Judge<P> {
@@ -211,8 +211,8 @@ pub struct Met {
     pub rewritten: Calls,
     /// By refusal number, the lines at which reading was refused, and how often
     /// that was one with its place left blank.
-    pub lines: [BTreeSet<usize>; 11],
-    pub at_blank: [usize; 11],
+    pub lines: [BTreeSet<usize>; 14],
+    pub at_blank: [usize; 14],
     pub plans: Plans,
     /// Sheets that were written as they were given, and those in which a place
     /// was filled in.

@@ -218,7 +218,7 @@ pub struct Judge<F> {
 }
 
 /// Calls by refusal number, 0 for none, by list and by buffer.
-pub type Calls = [[[usize; 5]; 5]; 11];
+pub type Calls = [[[usize; 5]; 5]; 14];
 
 /// Sizes of a list or a buffer for which so much is due: none, one less, as
 /// much, one more and much more. Where nothing is due there is no less.

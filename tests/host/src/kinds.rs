@@ -27,7 +27,7 @@ pub enum Lengths {
 pub enum Places {
     /// One of the list.
     Given,
-    /// 0: the first listed.
+    /// 0: the lowest listed.
     Open,
     /// All on one instrument, which is in every list.
     Crowded,
@@ -106,6 +106,7 @@ impl Kind {
                 Places::Crowded => {
                     if !list.contains(&crowded) {
                         list[0] = crowded;
+                        list.sort();
                     }
                     crowded
                 }

@@ -315,9 +315,7 @@ pub struct Left {
     pub full: usize,
     /// Sheets with a calibration above 0.
     pub calibrated: usize,
-    /// Batches left with a list that does not ascend, on another instrument than
-    /// the first listed, and started.
-    pub unordered: usize,
+    /// Batches left on another instrument than the lowest listed, and started.
     pub elsewhere: usize,
     pub started: usize,
 }
@@ -334,7 +332,6 @@ impl Left {
         self.full += (sheet.batches().len() == Sheet::BATCHES) as usize;
         self.calibrated += sheet.calibrations().iter().any(|&c| c > 0) as usize;
         for batch in sheet.batches() {
-            self.unordered += !batch.list.is_sorted() as usize;
             self.elsewhere += (batch.place != batch.list[0]) as usize;
             self.started += batch.started as usize;
         }
@@ -347,7 +344,6 @@ impl Left {
         self.empty += other.empty;
         self.full += other.full;
         self.calibrated += other.calibrated;
-        self.unordered += other.unordered;
         self.elsewhere += other.elsewhere;
         self.started += other.started;
     }

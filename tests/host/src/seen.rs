@@ -9,7 +9,7 @@ use crate::journal::kind;
 #[derive(Clone, Debug, Default)]
 pub struct Seen {
     /// By kind of call and by refusal number, 0 for none.
-    pub calls: [[usize; 12]; 10],
+    pub calls: [[usize; 14]; 10],
     /// Reviews of sheets on which some batch gains, and on which none does.
     pub gaining: usize,
     pub settled: usize,

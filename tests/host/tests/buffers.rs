@@ -52,7 +52,7 @@ fn every_size() {
 /// No room at all: a good sheet is 9, a bad one what its fault is.
 #[test]
 fn empty_buffers() {
-    let mut counts = [0; 11];
+    let mut counts = [0; 14];
     let bad = (24..28).flat_map(|run| cases::faulty(run, 300));
     for case in cases::sound(14, 500).into_iter().chain(bad) {
         let hosted = plan(&case.sheet, &mut Vec::new());
@@ -70,7 +70,7 @@ fn empty_buffers() {
     }
     println!("by refusal: {counts:?}");
     assert!(counts[9] >= 500);
-    for refusal in [1, 2, 3, 4, 5, 10] {
+    for refusal in [1, 2, 3, 4, 5, 10, 13] {
         assert!(counts[refusal] >= 20, "{counts:?}");
     }
 }
@@ -81,7 +81,7 @@ fn empty_buffers() {
 fn bytes_beside_the_sheet() {
     let mut judge = Judge::new(plan);
     let mut rng = Rng::new(15);
-    let mut refusals = [0; 11];
+    let mut refusals = [0; 14];
     for round in 0..40 {
         let mut file = match round {
             0 => SHEET.as_bytes().to_vec(),
@@ -356,7 +356,7 @@ fn cheats_are_caught() {
     let mut place = SHEET.as_bytes().to_vec();
     place[2 * 13 + 11] = b'3';
     let without = SHEET.replace("     0     0\n", "");
-    let sheets: [&[u8]; 17] = [
+    let sheets: [&[u8]; 18] = [
         SHEET.as_bytes(),
         without.as_bytes(),
         b"     2     0\n   240     0\n",
@@ -367,7 +367,8 @@ fn cheats_are_caught() {
         &bad,
         &place,
         b"     1     0\n     0\n",
-        b"     2     1\n     0     0\n     5           0     2     2     1\n",
+        b"     3     1\n     0     0     0\n     5           0     2     2     3\n",
+        b"     2     1\n     0     0\n     5     1     0     2     2     1\n",
         b"     1      \n",
         b"     2     2\n     0     0\n    10     1     1     2     1     2\n    10     1     1     1     1\n",
         b"     2     1\n     0     0\n    10     1     2     1     1\n",

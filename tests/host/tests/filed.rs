@@ -112,8 +112,8 @@ fn known_settlings() {
     let unsettled = "     2     4
      0     0
      2     2     0     1     2
-     4     1     0     2     2     1
-     5     1     0     2     2     1
+     4     1     0     2     1     2
+     5     1     0     2     1     2
      2     2     0     2     1     2
 ";
     let mut group = [0; 24];
@@ -138,8 +138,8 @@ fn known_settlings() {
     let written = "     2     4
      0     0
      2     2     0     1     2
-     4     2     0     2     2     1
-     5     1     0     2     2     1
+     4     2     0     2     1     2
+     5     1     0     2     1     2
      2     1     0     2     1     2
 ";
     let records = [went(2, 1, 2), went(4, 2, 1)];
@@ -218,7 +218,7 @@ fn damaged_files() {
     println!("{}", met.summary());
     assert!(met.sheets >= 10_000 && met.good >= 500 && met.started >= 200);
     for calls in [met.balanced, met.settled] {
-        for number in [1, 2, 3, 4, 5, 10] {
+        for number in [1, 2, 3, 4, 5, 10, 13] {
             for count in calls[number].as_flattened() {
                 assert!(*count >= 20, "refusal {number}: {:?}", calls[number]);
             }

@@ -103,11 +103,12 @@ fn told(call: &Call, line: &str) -> Told {
 }
 
 /// Each of these kinds with each of its refusals.
-const TOLD: [Told; 11] = [
+const TOLD: [Told; 12] = [
     (3, 0),
     (3, 4),
     (3, 6),
     (3, 11),
+    (3, 13),
     (4, 0),
     (4, 5),
     (4, 6),
@@ -147,14 +148,14 @@ fn random_pairs() {
             );
         }
     }
-    assert_eq!(met.len(), 66);
+    assert_eq!(met.len(), 78);
 }
 
 /// All edits of one small sheet, with every number, instrument and list about its
 /// limits.
 #[test]
 fn every_pair() {
-    let lines: [(u32, u32, &[u32]); 3] = [(30, 1, &[2, 1]), (20, 1, &[1]), (10, 1, &[1, 2])];
+    let lines: [(u32, u32, &[u32]); 3] = [(30, 2, &[1, 2]), (20, 1, &[1]), (10, 1, &[1, 2])];
     let sheet = file(&Draft::new(2, &lines).started(&[1]));
     let mut lists: Vec<Vec<u64>> = vec![vec![], vec![1, 2, 1]];
     for i in 0..4 {
@@ -187,7 +188,7 @@ fn every_pair() {
     }
     println!("{changing} pairs change the sheet, of one batch the order of {counting} counts");
     assert_eq!(calls.len(), 5 * 27);
-    assert!(changing >= 900 && counting >= 60);
+    assert!(changing >= 700 && counting >= 60);
 }
 
 /// The edits of two desks, of different batches.

@@ -163,7 +163,7 @@ fn refusals() {
         }
     }
     println!("by refusal: {counts:?}");
-    for refusal in [0, 1, 2, 3, 4, 5, 10] {
+    for refusal in [0, 1, 2, 3, 4, 5, 10, 13] {
         assert!(counts[refusal] >= 10, "{counts:?}");
     }
     assert!(counts[19] >= 100, "{counts:?}");
@@ -307,7 +307,7 @@ fn worklists() {
         took(&folder, WORKLIST, &["2", "0", "0"]),
         [SHEET.as_bytes(), b""]
     );
-    let mut met = [0; 13];
+    let mut met = [0; 14];
     let corners = corners::REFUSED.iter().map(|corner| corner.0);
     for worklist in corners.chain(corners::TAKEN.iter().map(|corner| corner.0)) {
         met[compare_taken(&folder, worklist, 2, &corners::CALIBRATIONS) as usize] += 1;
@@ -344,6 +344,7 @@ fn worklists() {
         (5, 10),
         (10, 15),
         (12, 130),
+        (13, 10),
     ] {
         assert!(met[refusal] >= least, "{met:?}");
     }

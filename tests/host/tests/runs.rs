@@ -55,9 +55,13 @@ fn known_answers() {
         ("     1    40     1     1", "     0"),
         ("     1    40     0", "     4"),
         ("     1    40     2     1     1", "     4"),
+        ("     1    40     2     2     1", "    13"),
+        ("     1  1441     2     2     1", "     3"),
         ("     1  1441     1     1", "     3"),
         ("     3     4     1     2", "     0"),
         ("     3     4     0", "     4"),
+        ("     3     4     2     2     1", "    13"),
+        ("     3     5     2     2     1", "     6"),
         ("     3     0     1     1", "     6"),
         ("     5", "     0    70     1    30    70"),
         ("     2     4", "     0"),
@@ -70,6 +74,7 @@ fn known_answers() {
         ("     9     4", "     6"),
         ("     2     1", "    11"),
         ("     3     1     0", "    11"),
+        ("     3     1     2     2     1", "    11"),
         ("     4     1     0", "    11"),
         ("     5", "     0    60     3    60     0"),
         (
@@ -121,8 +126,8 @@ fn known_records() {
     let unsettled = "     2     4
      0     0
      2     2     0     1     2
-     4     1     0     2     2     1
-     5     1     0     2     2     1
+     4     1     0     2     1     2
+     5     1     0     2     1     2
      2     2     0     2     1     2
 ";
     let answers = "     0     9     2     9     4
@@ -259,7 +264,9 @@ fn any_calls(rng: &mut Rng, draft: &Draft, longest: u32, count: usize) -> Vec<Ca
 /// most, or of very many; what is wrong with it shows late or not at all.
 fn long(rng: &mut Rng) -> Call {
     let mut list: Vec<u64> = (1..=24).collect();
-    rng.shuffle(&mut list);
+    if rng.once_in(2) {
+        rng.shuffle(&mut list);
+    }
     let size = *rng.pick(&[23, 24, 24, 25, 25, 26, 27, 40, 300]);
     while list.len() < size {
         let next = *rng.pick(&[0, 1, 24, 25, list[0], GREATEST]);
@@ -346,6 +353,7 @@ fn random_runs() {
     ] {
         assert!(seen.calls[kind][refusal] >= 1_900, "{refusal} of {kind}");
     }
+    assert!(seen.calls[1][13] >= 2_000 && seen.calls[3][13] >= 1_200);
     assert_eq!(seen.calls[5][0], seen.gaining + seen.settled);
     assert!(seen.gaining >= 7_000 && seen.settled >= 6_000);
     assert_eq!(seen.calls[7][0], seen.grouped + seen.ungrouped);
@@ -375,7 +383,7 @@ fn random_runs() {
     assert!(left.empty >= 2_000 && left.full >= 800);
     assert!(left.calibrated >= 10_000);
     assert!(left.started >= 150_000, "{}", left.started);
-    assert!(left.unordered >= 400_000 && left.elsewhere >= 200_000);
+    assert!(left.elsewhere >= 200_000, "{}", left.elsewhere);
 }
 
 /// Journals of two thousand calls.
@@ -460,7 +468,7 @@ fn damaged_journals() {
 #[test]
 fn every_byte() {
     const BYTES: &[u8; 17] = b" 0123456789\n\t\r-x\xb0";
-    let file = b"     1    12     2     2     1
+    let file = b"     1    12     2     1     2
      2     3
      3     1     1     2
      4     2     1
@@ -608,7 +616,7 @@ fn which_comes_first() {
     assert!(both >= 3_500);
     for calls in met.calls {
         let empty = |refusal: usize| calls[refusal][0];
-        let of_sheets = [1, 2, 3, 4, 5, 10];
+        let of_sheets = [1, 2, 3, 4, 5, 10, 13];
         for refusal in of_sheets {
             assert!(empty(refusal) >= 400, "refusal {refusal}");
         }

@@ -47,14 +47,14 @@ fn known_listings() {
     let longest = "     1     1\n     0\n  1440     0     0     1     1\n";
     let listing = "  1440  1440     0     0     0           0\n     0\n     1     1  1440\n";
     assert_eq!(answer(longest).unwrap(), listing);
-    // A blank place is the first listed.
+    // A blank place is the lowest listed.
     let blank = ["30", "20", "10"]
         .iter()
         .fold(SHEET.to_string(), |text, length| {
             text.replace(&format!("{length}     1"), &format!("{length}      "))
         });
     assert_eq!(answer(&blank).unwrap(), first);
-    let blank = "     2     1\n     0     0\n    10           0     2     2     1\n";
+    let blank = "     3     1\n     0     0     0\n    10           0     2     2     3\n";
     let listing = "    10    10     0     0     0           0\n     0\n     1     2    10\n";
     assert_eq!(answer(blank).unwrap(), listing);
 }
@@ -91,6 +91,15 @@ fn known_refusals() {
         (SHEET.replace("30     1     0", "30     1     2"), (1, 3)),
         (SHEET.replace("20     1     0", "20     0     1"), (5, 4)),
         (SHEET.replace("20     1     0", "20           1"), (5, 4)),
+        // A list that does not ascend, before the LF and the place.
+        (SHEET.replace("     1     2\n", "     2     1\n"), (13, 3)),
+        (
+            SHEET.replace(
+                "10     1     0     2     1     2\n",
+                "10     9     0     2     2     1",
+            ),
+            (13, 5),
+        ),
         // Five of them at the end.
         ("     1     1\n     0\n     5     ".into(), (1, 3)),
     ] {
@@ -198,20 +207,20 @@ fn damaged_sheets() {
     // Some damage leaves a good sheet, with other numbers in it.
     assert!(met.plans.count >= 500 && met.plans.blank >= 1_000);
     assert!(met.same >= 200 && met.filled >= 200);
-    for number in [1, 2, 3, 4, 5, 10] {
+    for number in [1, 2, 3, 4, 5, 10, 13] {
         assert_eq!(met.planned[number], met.rewritten[number]);
         for count in met.planned[number] {
             assert!(count >= 500, "refusal {number}");
         }
     }
-    for number in [1, 3, 4, 5] {
+    for number in [1, 3, 4, 5, 13] {
         assert!(met.lines[number].len() >= 100, "lines of refusal {number}");
     }
     assert_eq!(met.lines[2], BTreeSet::from([1]));
     assert_eq!(met.lines[10], BTreeSet::from([2]));
     // A blank place is taken, and hides no other fault of its line; where the batch
     // has started it is one.
-    for number in [1, 3, 4, 5] {
+    for number in [1, 3, 4, 5, 13] {
         assert!(met.at_blank[number] >= 300, "refusal {number} at a blank");
     }
     assert!(met.plans.some_started >= 300 && met.plans.all_started >= 100);

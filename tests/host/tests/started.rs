@@ -128,7 +128,7 @@ fn sheets_without_marks() {
     assert!(bad >= 1_500 && good >= 50);
 }
 
-/// All orders of 6, 11, 4 and 5: numbers that are there and not, batches that have
+/// All orders of 6, 11, 4, 13 and 5: numbers that are there and not, batches that have
 /// started and not, and lists and instruments good and bad.
 #[test]
 fn which_refusal_comes_first() {
@@ -136,18 +136,21 @@ fn which_refusal_comes_first() {
         (30, 1, &[1, 2]),
         (20, 1, &[1, 2]),
         (10, 3, &[3]),
-        (15, 2, &[2, 1]),
+        (15, 2, &[1, 2]),
     ];
     let draft = Draft::new(3, &lines).started(&[1, 3]);
     let sheet = file(&draft);
-    let lists: [(&[u64], bool); 7] = [
-        (&[1], true),
-        (&[3, 2, 1], true),
-        (&[], false),
-        (&[0], false),
-        (&[4], false),
-        (&[2, 2], false),
-        (&[1, 2, 3, 1], false),
+    let lists: [(&[u64], usize); 10] = [
+        (&[1], 0),
+        (&[1, 2, 3], 0),
+        (&[], 4),
+        (&[0], 4),
+        (&[4], 4),
+        (&[2, 2], 4),
+        (&[1, 2, 3, 1], 4),
+        (&[3, 2, 2], 4),
+        (&[3, 2, 1], 13),
+        (&[2, 1], 13),
     ];
     for number in [0, 1, 2, 3, 4, 5, 200, 257, 258, 65_537, 999_999] {
         let (there, started) = ((1..=4).contains(&number), number == 1 || number == 3);
@@ -161,9 +164,9 @@ fn which_refusal_comes_first() {
             (Call::Withdraw { number }, due(true, 0)),
             (Call::Start { number }, due(true, 0)),
         ];
-        for (list, good) in lists {
+        for (list, bad) in lists {
             let list = list.to_vec();
-            calls.push((Call::Requalify { number, list }, due(good, 4)));
+            calls.push((Call::Requalify { number, list }, due(bad == 0, bad)));
         }
         for instrument in [0, 1, 2, 3, 4, 257, 999_999] {
             // Not even to where it stands.
@@ -200,14 +203,14 @@ fn edits_and_starts() {
             Draft::new(3, &[lines[0], lines[2]]).started(&[1, 2]),
         ),
         (
-            "     1     5     2     3     1\n     9     4\n     4     4     1\n",
+            "     1     5     2     2     3\n     9     4\n     4     4     3\n",
             "     0\n     0\n    11\n",
-            Draft::new(3, &[lines[0], lines[1], lines[2], (5, 3, &[3, 1])]).started(&[1, 4]),
+            Draft::new(3, &[lines[0], lines[1], lines[2], (5, 2, &[2, 3])]).started(&[1, 4]),
         ),
         (
-            "     4     2     2\n     3     2     2     3     2\n     9     2\n     4     2     3\n",
+            "     4     2     2\n     3     2     3     1     2     3\n     9     2\n     4     2     3\n",
             "     0\n     0\n     0\n    11\n",
-            Draft::new(3, &[lines[0], (20, 2, &[3, 2]), lines[2]]).started(&[1, 2]),
+            Draft::new(3, &[lines[0], (20, 2, &[1, 2, 3]), lines[2]]).started(&[1, 2]),
         ),
     ] {
         assert_eq!(answers(&sheet, journal).unwrap(), told, "{journal}");

@@ -23,7 +23,7 @@ const LEAST: usize = 13 + 7 + 31;
 struct Judge {
     lent: Lent<u8>,
     /// Calls by refusal number, 0 for none.
-    met: [usize; 13],
+    met: [usize; 14],
     /// Refusals 12 at another row than the first.
     later: usize,
 }
@@ -84,7 +84,7 @@ fn every_corner() {
         };
         judge.call(2, &corners::CALIBRATIONS, file, LARGEST_SHEET, &due);
     }
-    judge.expect(&[(0, 15), (1, 5), (3, 4), (4, 8), (5, 8), (12, 100)]);
+    judge.expect(&[(0, 15), (1, 5), (3, 4), (4, 8), (5, 8), (12, 100), (13, 6)]);
 }
 
 /// A file of this crate's folder `worklists`.
@@ -171,8 +171,14 @@ fn as_the_sheet() {
             assert_eq!(taken(m, calibrations, &worklist), read);
         }
     });
-    let least = [(0, 3_000), (1, 300), (3, 400), (4, 1_500), (5, 1_000)];
-    both(states).expect(&least);
+    both(states).expect(&[
+        (0, 3_000),
+        (1, 300),
+        (3, 400),
+        (4, 1_500),
+        (5, 1_000),
+        (13, 500),
+    ]);
 }
 
 /// Worklists that were spoilt in some places, and few bytes without a plan.
@@ -194,8 +200,14 @@ fn damaged() {
         }
     });
     let judge = both(states);
-    let least = [(0, 10_000), (1, 2_000), (3, 600), (4, 6_000), (5, 3_000)];
-    judge.expect(&least);
+    judge.expect(&[
+        (0, 10_000),
+        (1, 2_000),
+        (3, 600),
+        (4, 6_000),
+        (5, 3_000),
+        (13, 2_000),
+    ]);
     assert!(judge.met[12] >= 200_000 && judge.later >= 80_000);
 }
 
@@ -236,7 +248,7 @@ fn all_short_files() {
 #[test]
 fn rows() {
     let row = b"30,1,0,1\r\n".as_slice();
-    let fault = |rows: &[u8]| taken(1, &[0], rows).map(|_| ());
+    let fault = |rows: &[u8]| taken(2, &[0, 0], rows).map(|_| ());
     for n in 1..=300 {
         let due = if n <= 200 { Ok(()) } else { Err((2, 0)) };
         let rows = row.repeat(n);
@@ -253,8 +265,9 @@ fn rows() {
         ("0,1,0,1\r\n", 3),
         ("1441,1,0,1\r\n", 3),
         ("30,1,2,1\r\n", 1),
-        ("30,1,0,2\r\n", 4),
+        ("30,1,0,3\r\n", 4),
         ("30,1,0,\"1,1\"\r\n", 4),
+        ("30,1,0,\"2,1\"\r\n", 13),
         ("30,2,0,1\r\n", 5),
         ("30,,1,1\r\n", 5),
         ("30,1,0\r\n", 12),
@@ -337,31 +350,38 @@ fn listing(numbers: impl IntoIterator<Item = u32>) -> String {
     numbers.join(",")
 }
 
-/// Lists of any length are of the form; those of more than m are 4.
+/// Lists of any length are of the form; those of more than m are 4, whatever their
+/// order.
 #[test]
 fn long_lists() {
     let calibrations = [0; 24];
     let fault = |worklist: &str| taken(24, &calibrations, worklist.as_bytes());
     for n in 1..=24 {
-        for list in [Vec::from_iter(1..=n), Vec::from_iter((25 - n..=24).rev())] {
+        for list in [Vec::from_iter(1..=n), Vec::from_iter(25 - n..=24)] {
             let row = format!("30,,0,\"{}\"\r\n", listing(list.clone()));
             let draft = Draft::new(24, &[(30, list[0], &list)]);
             assert_eq!(fault(&row).unwrap(), file(&draft));
+            let row = format!("30,,0,\"{}\"\r\n", listing(list.into_iter().rev()));
+            assert_eq!(fault(&row).is_ok(), n == 1);
+            assert!(n == 1 || fault(&row) == Err((13, 1)));
         }
     }
     for n in [
         23, 24, 25, 26, 30, 255, 256, 257, 280, 1_000, 65_537, 1_000_000,
     ] {
-        // The first 24 alone would do, one that is there comes again, or none is there.
+        // The first 24 alone would do, one that is there comes again, none is there, or
+        // they descend.
         let lists = [
             listing((0..n).map(|k| 1 + k % 24)),
             listing(vec![1; n as usize]),
             listing(vec![999_999; n as usize]),
+            listing((1..=n).rev().map(|j| j.min(999_999))),
         ];
         for (k, list) in lists.iter().enumerate() {
             let row = format!("30,,0,\"{list}\"\r\n");
             let due = match k {
                 0 if n <= 24 => Ok(()),
+                3 if n <= 24 => Err((13, 1)),
                 _ => Err((4, 1)),
             };
             assert_eq!(fault(&row).map(|_| ()), due, "{n}");
@@ -432,6 +452,7 @@ fn buffers() {
         (4, 300),
         (5, 100),
         (12, 500),
+        (13, 200),
     ]);
     let [worklist, sheet] = ["largest-all.csv", "largest.txt"].map(stored);
     assert_eq!(sheet.len(), LARGEST_SHEET);

@@ -34,6 +34,11 @@ fn known_sheets() {
             "     1  1441     1     1\n     1     5     2     2     2\n     3     1     0\n",
             SHEET,
         ),
+        // Lists that do not ascend.
+        (
+            "     1     5     2     2     1\n     3     1     2     2     1\n",
+            SHEET,
+        ),
         // Lists with fewer entries than there are batches.
         ("     7     2\n     8     2\n     8     0\n", SHEET),
         ("     4     1     2\n", &planned),
@@ -43,13 +48,13 @@ fn known_sheets() {
         ("     8     3\n     7     3\n", &planned),
         ("     7     3\n     4     1     1\n", SHEET),
         (
-            "     1    15     2     2     1\n",
+            "     1    15     2     1     2\n",
             "     2     4
      0     0
     30     1     0     2     1     2
     20     1     0     1     1
     10     1     0     2     1     2
-    15     2     0     2     2     1
+    15     1     0     2     1     2
 ",
         ),
         (
@@ -60,27 +65,28 @@ fn known_sheets() {
     10     1     0     2     1     2
 ",
         ),
-        // The place is kept where it is listed.
+        // The place is kept where it is listed, and is the lowest otherwise.
         (
-            "     3     1     1     2\n     3     3     2     2     1\n",
+            "     3     1     1     2\n     3     1     2     1     2\n     3     3     1     2\n     \
+             3     2     2     1     2\n",
             "     2     3
      0     0
-    30     2     0     1     2
-    20     1     0     1     1
-    10     1     0     2     2     1
+    30     2     0     2     1     2
+    20     1     0     2     1     2
+    10     2     0     1     2
 ",
         ),
         // Refused calls in between.
         (
             "     4     1     2\n     4     2     2\n     1  1440     1     2\n     2     9\n     \
              3     1     1     1\n     3     3     2     2     1\n     2     2\n     \
-             1     7     2     2     1\n",
+             1     7     1     2\n     1     7     2     2     1\n",
             "     2     4
      0     0
     30     1     0     1     1
-    10     1     0     2     2     1
+    10     1     0     2     1     2
   1440     2     0     1     2
-     7     2     0     2     2     1
+     7     2     0     1     2
 ",
         ),
         (
@@ -102,25 +108,25 @@ fn known_sheets() {
     ] {
         assert_eq!(written(SHEET, journal), due, "{journal}");
     }
-    // Places not given are filled in, and lists keep their order.
+    // Places not given are filled in with the lowest listed, and all else stays.
     let open = "    12     4
      0     0     0     0     0     0     0     0     0     0     0     0
-     5           0     2    11     2
-    40     0     0     3     3     2     1
-     7     2     0     2    12     2
+     5           0     2     2    11
+    40     0     0     3     3    10    11
+     7    12     0     2     2    12
   1440     9     0     1     9
 ";
     let filled = "    12     4
      0     0     0     0     0     0     0     0     0     0     0     0
-     5    11     0     2    11     2
-    40     3     0     3     3     2     1
-     7     2     0     2    12     2
+     5     2     0     2     2    11
+    40     3     0     3     3    10    11
+     7    12     0     2     2    12
   1440     9     0     1     9
 ";
     assert_eq!(written(open, ""), filled);
     assert_eq!(written(filled, ""), filled);
-    let moved = filled.replace("40     3", "40     1");
-    assert_eq!(written(open, "     4     2     1\n"), moved);
+    let moved = filled.replace("40     3", "40    10");
+    assert_eq!(written(open, "     4     2    10\n"), moved);
     for (m, minutes) in [(1, 0), (1, 240), (24, 0), (24, 240)] {
         let empty = Draft::new(m, &[]).calibrated(&vec![minutes; m as usize]);
         let empty = String::from_utf8(empty.render()).unwrap();
@@ -131,12 +137,13 @@ fn known_sheets() {
     // Calibrations stay as they are, whatever the calls.
     let calibrated = SHEET.replace("     0     0", "   240     7");
     assert_eq!(written(&calibrated, ""), calibrated);
-    let journal = "     2     1\n     1    15     2     2     1\n     4     2     2\n     3     1     1     2\n";
+    let journal =
+        "     2     1\n     1    15     1     2\n     4     2     2\n     3     1     1     2\n";
     let left = "     2     3
    240     7
     20     2     0     1     2
     10     2     0     2     1     2
-    15     2     0     2     2     1
+    15     2     0     1     2
 ";
     assert_eq!(written(&calibrated, journal), left);
     // The first instrument is calibrated for so long that nothing goes there.
@@ -145,15 +152,15 @@ fn known_sheets() {
     let unsettled = "     2     4
      0     0
      2     2     0     1     2
-     4     1     0     2     2     1
-     5     1     0     2     2     1
+     4     1     0     2     1     2
+     5     1     0     2     1     2
      2     2     0     2     1     2
 ";
     let settled = "     2     4
      0     0
      2     2     0     1     2
-     4     2     0     2     2     1
-     5     1     0     2     2     1
+     4     2     0     2     1     2
+     5     1     0     2     1     2
      2     1     0     2     1     2
 ";
     assert_eq!(written(unsettled, "     7     4\n"), unsettled);
@@ -186,8 +193,8 @@ fn a_full_sheet() {
 fn the_largest() {
     assert_eq!(LARGEST_SHEET, 33_958);
     let mut judge = Judge::new(write);
-    let all: Vec<u64> = (1..=24).rev().collect();
-    let most: Vec<u32> = (1..=24).rev().collect();
+    let all: Vec<u64> = (1..=24).collect();
+    let most: Vec<u32> = (1..=24).collect();
     let draft = |batches: usize, list: &[u32]| Draft::new(24, &vec![(1440, 0, list); batches]);
     let requalify = |number| Call::Requalify {
         number,

@@ -1,6 +1,7 @@
 //! Worklists as a sample system exports them, and spoilt ones.
 
 use crate::draft::{Draft, Line};
+use crate::gen::disorder;
 use crate::rng::Rng;
 
 /// A worklist with a row for each of the draft's lines, at least one, that says
@@ -56,7 +57,7 @@ pub fn damage(rng: &mut Rng, file: &mut Vec<u8>) {
     ];
     let at = rng.below(file.len() as u64 + 1) as usize;
     let inside = at < file.len();
-    match rng.below(13) {
+    match rng.below(14) {
         0 => file.truncate(at),
         1 => file.push(*rng.pick(&BYTES)),
         2 => file.insert(at, *rng.pick(&BYTES)),
@@ -112,6 +113,22 @@ pub fn damage(rng: &mut Rng, file: &mut Vec<u8>) {
                 .collect();
             if !digits.is_empty() {
                 file[*rng.pick(&digits)] = *rng.pick(b"0123456789");
+            }
+        }
+        12 => {
+            // A quoted list in another order.
+            let text = String::from_utf8_lossy(file).into_owned();
+            let parts: Vec<&str> = text.split('"').collect();
+            let lists: Vec<usize> = (0..parts.len())
+                .filter(|&k| k % 2 == 1 && parts[k].contains(','))
+                .collect();
+            if !lists.is_empty() {
+                let k = *rng.pick(&lists);
+                let mut members: Vec<&str> = parts[k].split(',').collect();
+                disorder(rng, &mut members);
+                let list = members.join(",");
+                let parts = [&parts[..k], &[list.as_str()], &parts[k + 1..]].concat();
+                *file = parts.join("\"").into_bytes();
             }
         }
         _ => {

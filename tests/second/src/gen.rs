@@ -71,12 +71,41 @@ pub const LARGE: Shape = Shape {
     started: true,
 };
 
-/// A sound list of instruments, in any order.
-pub fn list(rng: &mut Rng, m: u32, count: u32) -> Vec<u32> {
+/// So many instruments, in any order.
+fn any_of(rng: &mut Rng, m: u32, count: u32) -> Vec<u32> {
     let mut all: Vec<u32> = (1..=m).collect();
     rng.shuffle(&mut all);
     all.truncate(count as usize);
     all
+}
+
+/// A sound list of so many instruments.
+pub fn list(rng: &mut Rng, m: u32, count: u32) -> Vec<u32> {
+    let mut list = any_of(rng, m, count);
+    list.sort();
+    list
+}
+
+/// A list that is sound but for its order; on one instrument a sound one.
+pub fn unordered_list(rng: &mut Rng, m: u32) -> Vec<u32> {
+    let count = rng.within(m.min(2), m);
+    let mut list = list(rng, m, count);
+    disorder(rng, &mut list);
+    list
+}
+
+/// Put a list out of order, if it has more than one member.
+pub fn disorder<T>(rng: &mut Rng, list: &mut [T]) {
+    let Some(last) = list.len().checked_sub(1).filter(|&last| last > 0) else {
+        return;
+    };
+    let k = rng.below(last as u64) as usize;
+    match rng.below(4) {
+        0 => list.swap(k, k + 1),
+        1 => list.swap(k, last),
+        2 => list[k..].rotate_right(1),
+        _ => list.reverse(),
+    }
 }
 
 /// Calibrations of up to so many minutes: all 0, all the longest, or some.
@@ -116,6 +145,13 @@ pub fn start(rng: &mut Rng, lines: &mut [Line]) {
 /// A sound draft: how lists, lengths, places, calibrations and marks lean differs
 /// from one to the next.
 pub fn draft(rng: &mut Rng, shape: Shape) -> Draft {
+    let mut draft = unordered(rng, shape);
+    draft.lines.iter_mut().for_each(|line| line.list.sort());
+    draft
+}
+
+/// A draft that is sound but for the order of its lists.
+pub fn unordered(rng: &mut Rng, shape: Shape) -> Draft {
     let m = rng.within(shape.instruments.0, shape.instruments.1);
     let n = rng.within(shape.batches.0, shape.batches.1);
     let (shortest, longest) = shape.lengths;
@@ -130,7 +166,7 @@ pub fn draft(rng: &mut Rng, shape: Shape) -> Draft {
             2 if rng.once_in(2) => 1,
             _ => m - rng.within(0, (m - 1).min(1)),
         };
-        let list = list(rng, m, count);
+        let list = any_of(rng, m, count);
         let length = match lengths {
             0 => usual,
             1 if rng.once_in(2) => longest,
@@ -179,7 +215,7 @@ const EDGES: [u32; 19] = [
 pub fn damage(rng: &mut Rng, file: &mut Vec<u8>) {
     const BYTES: [u8; 14] = *b" 0123459\n\t\r-x\0";
     let len = file.len() as u64;
-    match rng.below(10) {
+    match rng.below(11) {
         0 => file.truncate(rng.below(len + 1) as usize),
         1 => {
             for _ in 0..rng.within(1, 7) {
@@ -219,6 +255,21 @@ pub fn damage(rng: &mut Rng, file: &mut Vec<u8>) {
             if rng.once_in(4) {
                 let length = *rng.pick(&[b"     0", b"  1441"]);
                 file[at - 6..at].copy_from_slice(length);
+            }
+        }
+        7 if !places(file).is_empty() => {
+            // A list in another order, and at times no LF after it.
+            let at = *rng.pick(&places(file));
+            let rest = file[at..].iter().position(|&b| b == b'\n');
+            let end = at + rest.unwrap_or(file.len() - at);
+            let Some(list) = file.get_mut(at + 18..end) else {
+                return;
+            };
+            let mut members: Vec<Vec<u8>> = list.chunks(6).map(<[u8]>::to_vec).collect();
+            disorder(rng, &mut members);
+            list.copy_from_slice(&members.concat());
+            if end < file.len() && rng.once_in(4) {
+                file[end] = *rng.pick(&BYTES);
             }
         }
         _ => {
@@ -271,7 +322,7 @@ pub fn blank_places(file: &[u8]) -> usize {
 }
 
 /// An accepted file with every place that is 0 or blank filled in: it gets the
-/// columns of the first listed instrument, which stand three fields further on.
+/// columns of the lowest instrument listed, which stand three fields further on.
 pub fn with_places(file: &[u8]) -> Vec<u8> {
     let mut filled = file.to_vec();
     for at in places(file) {
@@ -282,8 +333,8 @@ pub fn with_places(file: &[u8]) -> Vec<u8> {
     filled
 }
 
-/// Put another number, or no place, in some line of a draft that has one. Now and
-/// then the result is still sound.
+/// Put another number, no place, or a list out of order in some line of a draft
+/// that has one. Now and then the result is still sound.
 pub fn misstate(rng: &mut Rng, draft: &mut Draft) {
     let m = draft.instruments;
     let k = rng.below(draft.lines.len() as u64) as usize;
@@ -291,7 +342,7 @@ pub fn misstate(rng: &mut Rng, draft: &mut Draft) {
     let near = *rng.pick(&[0, 1, m - 1, m, m + 1, m + 2]);
     let far = *rng.pick(&EDGES);
     let number = *rng.pick(&[near, near, far]);
-    match rng.below(8) {
+    match rng.below(10) {
         0 => line.length = *rng.pick(&EDGES),
         1 => line.length = *rng.pick(&[0, 1, 1439, 1440, 1441]),
         2 => line.place = *rng.pick(&[Some(number), Some(number), None]),
@@ -304,6 +355,7 @@ pub fn misstate(rng: &mut Rng, draft: &mut Draft) {
         6 => line
             .list
             .resize(m as usize + rng.within(0, 2) as usize, number),
+        7 | 8 => line.list = unordered_list(rng, m),
         _ => *line.list.last_mut().expect("a list") = number,
     }
 }
@@ -322,7 +374,7 @@ fn edge_or(rng: &mut Rng, usual: u64) -> u64 {
 pub fn call_list(rng: &mut Rng, m: u32) -> Vec<u64> {
     let count = rng.within(1, m);
     let mut list: Vec<u64> = list(rng, m, count).into_iter().map(u64::from).collect();
-    match rng.below(12) {
+    match rng.below(14) {
         0 => list.clear(),
         1 => {
             let again = *rng.pick(&list);
@@ -333,6 +385,7 @@ pub fn call_list(rng: &mut Rng, m: u32) -> Vec<u64> {
             list[k] = edge_or(rng, 0);
         }
         3 => list = (0..m as u64 + 1 + rng.below(3)).collect(),
+        4 | 5 => list = unordered_list(rng, m).into_iter().map(u64::from).collect(),
         _ => {}
     }
     list

@@ -1,6 +1,6 @@
 //! From a file's bytes to a sheet (document 01, "The sheet"; document 02, C-11
-//! for a place left blank, C-16 for line 2, C-17 for the mark): from the front,
-//! and the first fault decides.
+//! for a place left blank, C-16 for line 2, C-17 for the mark, C-20 for lists that
+//! ascend): from the front, and the first fault decides.
 
 use crate::sheet::{Batch, Refusal, Sheet};
 
@@ -60,8 +60,9 @@ fn calibrations(rest: &mut &[u8], m: u32) -> Result<Vec<u32>, Refusal> {
 }
 
 /// A batch's line, on a sheet of `m` instruments. A number is judged before
-/// the next field is read, but the place only after the line's LF. A place
-/// left blank is place 0, which a started batch may not have.
+/// the next field is read, but the list's order only after the whole list, and
+/// the place only after the line's LF. A place left blank is place 0, which a
+/// started batch may not have.
 fn batch(rest: &mut &[u8], m: u32) -> Result<Batch, Refusal> {
     let length = number(rest)?;
     if !(1..=Sheet::LENGTH).contains(&length) {
@@ -84,6 +85,9 @@ fn batch(rest: &mut &[u8], m: u32) -> Result<Batch, Refusal> {
             return Err(Refusal::List);
         }
         list.push(instrument);
+    }
+    if !list.is_sorted() {
+        return Err(Refusal::Order);
     }
     line_end(rest)?;
     let place = if place == 0 && !started {

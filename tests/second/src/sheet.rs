@@ -1,5 +1,5 @@
 //! The sheet and its edits (document 01, "The sheet" and "Refusals"; document 02,
-//! C-16 for calibrations, C-17 for started batches).
+//! C-16 for calibrations, C-17 for started batches, C-20 for lists that ascend).
 
 use std::slice;
 
@@ -31,6 +31,8 @@ pub enum Refusal {
     Started = 11,
     /// The worklist is not of its form.
     Worklist = 12,
+    /// The qualified list does not ascend.
+    Order = 13,
 }
 
 impl Refusal {
@@ -43,7 +45,7 @@ impl Refusal {
 #[derive(Clone, Debug, PartialEq, Eq)]
 pub struct Batch {
     pub length: u32,
-    /// The qualified instruments, in the order in which they were listed.
+    /// The qualified instruments, ascending.
     pub list: Vec<u32>,
     pub place: u32,
     pub started: bool,
@@ -74,6 +76,23 @@ pub struct Sheet {
 /// Where the entry of this instrument is in a vector with one for each.
 pub(crate) fn at(instrument: u32) -> usize {
     instrument as usize - 1
+}
+
+/// A list on a sheet of `m` instruments. All of it passes 4 before its order is
+/// judged.
+pub(crate) fn judge_list(list: &[u64], m: u32) -> Result<Vec<u32>, Refusal> {
+    if list.is_empty() || list.len() > m as usize {
+        return Err(Refusal::List);
+    }
+    for (k, j) in list.iter().enumerate() {
+        if !(1..=m as u64).contains(j) || list[..k].contains(j) {
+            return Err(Refusal::List);
+        }
+    }
+    if !list.is_sorted() {
+        return Err(Refusal::Order);
+    }
+    Ok(list.iter().map(|&j| j as u32).collect())
 }
 
 impl Sheet {
@@ -177,7 +196,7 @@ impl Sheet {
         batches.chain(calibrations).sum()
     }
 
-    /// Add a batch, on the first listed instrument.
+    /// Add a batch, on the lowest instrument listed.
     pub fn add(&mut self, length: u64, list: &[u64]) -> Result<(), Refusal> {
         if self.batches.len() == Self::BATCHES {
             return Err(Refusal::Full);
@@ -185,7 +204,7 @@ impl Sheet {
         if !(1..=Self::LENGTH as u64).contains(&length) {
             return Err(Refusal::Length);
         }
-        let list = self.judge_list(list)?;
+        let list = judge_list(list, self.instruments)?;
         self.batches.push(Batch {
             length: length as u32,
             place: list[0],
@@ -202,10 +221,11 @@ impl Sheet {
         Ok(())
     }
 
-    /// Give a batch another list; it stays where it is if that is listed.
+    /// Give a batch another list; it stays where it is if that is listed, and
+    /// otherwise goes to the lowest that is.
     pub fn requalify(&mut self, number: u64, list: &[u64]) -> Result<(), Refusal> {
         let index = self.waiting(number)?;
-        let list = self.judge_list(list)?;
+        let list = judge_list(list, self.instruments)?;
         let batch = &mut self.batches[index];
         if !list.contains(&batch.place) {
             batch.place = list[0];
@@ -240,19 +260,5 @@ impl Sheet {
             return Err(Refusal::Started);
         }
         Ok(index)
-    }
-
-    fn judge_list(&self, list: &[u64]) -> Result<Vec<u32>, Refusal> {
-        if list.is_empty() || list.len() > self.instruments as usize {
-            return Err(Refusal::List);
-        }
-        let mut good = Vec::new();
-        for &j in list {
-            if !(1..=self.instruments as u64).contains(&j) || good.contains(&(j as u32)) {
-                return Err(Refusal::List);
-            }
-            good.push(j as u32);
-        }
-        Ok(good)
     }
 }

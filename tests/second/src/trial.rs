@@ -129,8 +129,7 @@ impl<'a> State<'a> {
         let qualified = self.items[batch].qualified().iter();
         let ends = qualified.filter(|&&j| j != self.places[batch]);
         let ends = ends.map(|&j| (j, self.instrument_heights[at(j)]));
-        // The list is in any order.
-        let below = ends.clone().filter(|&(_, end)| height == end + 1).min();
+        let below = ends.clone().find(|&(_, end)| height == end + 1);
         match below {
             Some((instrument, _)) => Some(Act::Place { batch, instrument }),
             None => {

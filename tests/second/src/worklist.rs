@@ -3,7 +3,7 @@
 //! any batch is.
 
 use crate::read::Fault;
-use crate::sheet::{Batch, Refusal, Sheet};
+use crate::sheet::{judge_list, Batch, Refusal, Sheet};
 
 /// What a row says.
 struct Row {
@@ -11,7 +11,7 @@ struct Row {
     /// None where the field is empty.
     place: Option<u32>,
     mark: u32,
-    list: Vec<u32>,
+    list: Vec<u64>,
 }
 
 /// The sheet that says what the worklist says, on `m` instruments with these
@@ -44,21 +44,14 @@ pub fn take(m: u32, calibrations: &[u32], worklist: &[u8]) -> Result<Sheet, Faul
 /// The batch of a row, on a sheet of `m` instruments, judged in the order of a
 /// sheet's line.
 fn batch(row: Row, m: u32) -> Result<Batch, Refusal> {
-    let Row { length, list, .. } = row;
+    let length = row.length;
     if !(1..=Sheet::LENGTH).contains(&length) {
         return Err(Refusal::Length);
     }
     if row.mark > 1 {
         return Err(Refusal::Form);
     }
-    if list.len() > m as usize {
-        return Err(Refusal::List);
-    }
-    for (k, &instrument) in list.iter().enumerate() {
-        if !(1..=m).contains(&instrument) || list[..k].contains(&instrument) {
-            return Err(Refusal::List);
-        }
-    }
+    let list = judge_list(&row.list, m)?;
     let started = row.mark == 1;
     let place = match row.place {
         None | Some(0) if started => return Err(Refusal::Place),
@@ -97,12 +90,14 @@ fn row(fields: Vec<Vec<u8>>) -> Option<Row> {
         [] => None,
         digits => Some(number(digits)?),
     };
-    let list = list.split(|&b| b == b',').map(number);
+    let list = list.split(|&b| b == b',');
     Some(Row {
         length: number(length)?,
         place,
         mark: number(mark)?,
-        list: list.collect::<Option<_>>()?,
+        list: list
+            .map(|j| number(j).map(u64::from))
+            .collect::<Option<_>>()?,
     })
 }
 

@@ -1,11 +1,11 @@
-//! From a sheet to a file's bytes (document 02, C-13, C-16 for line 2 and C-17
-//! for the mark).
+//! From a sheet to a file's bytes (document 02, C-13, C-16 for line 2, C-17 for
+//! the mark and C-20 for the lists).
 
 use crate::listing::put_line;
 use crate::sheet::Sheet;
 
-/// The sheet in the form that the reader takes. Lists keep their order, and
-/// every place is the true one, of a started batch too.
+/// The sheet in the form that the reader takes. Lists ascend, and every place is
+/// the true one, of a started batch too.
 pub fn write(sheet: &Sheet) -> Vec<u8> {
     let mut text = String::new();
     let batches = sheet.batches();

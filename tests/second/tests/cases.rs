@@ -134,7 +134,7 @@ fn p3_no_batch() {
 
 #[test]
 fn p4_one_long_batch() {
-    for (m, list) in [(1, vec![1]), (2, vec![2]), (24, vec![7, 3, 24])] {
+    for (m, list) in [(1, vec![1]), (2, vec![2]), (24, vec![3, 7, 24])] {
         let (sheet, plan) = planned(&Draft::new(m, &[(1440, 0, &list)]));
         let numbers = (plan.finish, plan.floor, plan.level);
         assert_eq!(numbers, (1440, 1440, 0));
@@ -217,7 +217,7 @@ fn p9_zeros() {
 
 #[test]
 fn a_blank_place_is_place_0() {
-    // All three of the first case's places are the first listed.
+    // All three of the first case's places are the lowest listed.
     let text = std::str::from_utf8(P1).unwrap();
     let lengths = ["30", "20", "10"];
     let blank = lengths.iter().fold(text.to_string(), |text, length| {
@@ -232,11 +232,11 @@ fn a_blank_place_is_place_0() {
     // Lines for a sheet of three instruments, and the places they come to.
     for (line, place) in [
         ("     5           0     1     2\n", 2),
-        ("     5           0     2     3     1\n", 3),
-        ("     5           0     3     2     3     1\n", 2),
+        ("     5           0     1     3\n", 3),
+        ("     5           0     2     2     3\n", 2),
         ("  1440           0     3     1     2     3\n", 1),
-        ("     5     0     0     2     3     1\n", 3),
-        ("     5     1     0     2     3     1\n", 1),
+        ("     5     0     0     2     2     3\n", 2),
+        ("     5     3     0     2     2     3\n", 3),
     ] {
         let file = format!("     3     1\n     0     0     0\n{line}");
         let sheet = read(file.as_bytes()).unwrap();
@@ -245,11 +245,11 @@ fn a_blank_place_is_place_0() {
     // Each line by itself.
     let file = b"     3     3
      0     0     0
-     5           0     2     3     1
-     6     1     0     2     3     1
-     7     0     0     2     2     1
+     5           0     2     2     3
+     6     3     0     2     1     3
+     7     0     0     2     1     2
 ";
-    assert_eq!(read(file).unwrap().places(), [3, 1, 2]);
+    assert_eq!(read(file).unwrap().places(), [2, 3, 1]);
 }
 
 #[test]
@@ -371,8 +371,8 @@ fn balance_ends_before_settling() {
         2,
         &[
             (2, 2, &[2]),
-            (4, 1, &[2, 1]),
-            (5, 1, &[2, 1]),
+            (4, 1, &[1, 2]),
+            (5, 1, &[1, 2]),
             (2, 2, &[1, 2]),
         ],
     )
@@ -548,32 +548,32 @@ fn written_sheets() {
         written(&Sheet::empty(24).unwrap()),
         format!("    24     0\n{}\n", "     0".repeat(24))
     );
-    // Places not given are the first listed, and lists keep their order.
+    // Places not given are the lowest listed, and lists ascend.
     let file = b"    12     4
      0     0     0     0     0     0     0     0     0     0     0     0
-     5           0     2    11     2
-    40     0     0     3     3     2     1
-     7     2     0     2    12     2
+     5           0     2     2    11
+    40     0     0     3     3    10    11
+     7    12     0     2     2    12
   1440     9     0     1     9
 ";
     let mut sheet = read(file).unwrap();
     let text = "    12     4
      0     0     0     0     0     0     0     0     0     0     0     0
-     5    11     0     2    11     2
-    40     3     0     3     3     2     1
-     7     2     0     2    12     2
+     5     2     0     2     2    11
+    40     3     0     3     3    10    11
+     7    12     0     2     2    12
   1440     9     0     1     9
 ";
     assert_eq!(written(&sheet), text);
-    sheet.shift(2, 1).unwrap();
+    sheet.shift(2, 11).unwrap();
     sheet.withdraw(1).unwrap();
-    sheet.requalify(3, &[10, 8]).unwrap();
+    sheet.requalify(3, &[8, 10]).unwrap();
     sheet.add(100, &[6, 12]).unwrap();
     let text = "    12     4
      0     0     0     0     0     0     0     0     0     0     0     0
-    40     1     0     3     3     2     1
-     7     2     0     2    12     2
-  1440    10     0     2    10     8
+    40    11     0     3     3    10    11
+     7    12     0     2     2    12
+  1440     8     0     2     8    10
    100     6     0     2     6    12
 ";
     assert_eq!(written(&sheet), text);

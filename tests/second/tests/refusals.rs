@@ -54,12 +54,12 @@ fn some_drafts() -> Vec<Draft> {
     let mut drafts: Vec<Draft> = (0..12).map(|_| gen::draft(&mut rng, gen::SMALL)).collect();
     drafts.extend((0..3).map(|_| gen::draft(&mut rng, gen::MEDIUM)));
     drafts.push(Draft::new(1, &[]));
-    let last = Draft::new(24, &[(1440, 24, &[24, 1, 2]), (1, 0, &[3])]);
+    let last = Draft::new(24, &[(1440, 24, &[1, 2, 24]), (1, 0, &[3])]);
     drafts.push(last.clone().without_places());
     let most = [Sheet::CALIBRATION; 24];
     drafts.push(Draft::new(24, &[]).calibrated(&most));
     drafts.push(last.clone().calibrated(&most));
-    let listed = Draft::new(24, &[(1440, 24, &[24, 1, 2]), (1, 3, &[3])]);
+    let listed = Draft::new(24, &[(1440, 24, &[1, 2, 24]), (1, 3, &[3])]);
     drafts.push(listed.clone().started(&[1]));
     drafts.push(listed.all_started());
     drafts.push(last);
@@ -430,6 +430,29 @@ fn faults_inside_a_batch_line() {
         ("     1     1     0     3     1    0x     0\n", 1),
         ("     1     1     0     2     1     2     3\n", 1),
         ("     1     1     0     2     1\n", 1),
+        // Its order, once the whole list has passed, and before the LF and the place.
+        ("     1     1     0     2     2     1\n", 13),
+        ("     1     1     0     3     1     3     2\n", 13),
+        ("     1     1     0     3     2     1     3\n", 13),
+        ("     1     1     0     3     3     2     1\n", 13),
+        ("     1     1     1     2     3     1\n", 13),
+        ("     1           0     2     2     1\n", 13),
+        ("     1           1     2     2     1\n", 13),
+        ("     1     9     0     2     2     1\n", 13),
+        ("     1     3     0     2     2     1\n", 13),
+        ("     1     1     0     2     2     1", 13),
+        ("     1     1     0     2     2     1 \n", 13),
+        ("     1     1     0     2     2     1     3\n", 13),
+        ("     1     9     0     2     2     1\r\n", 13),
+        ("     1     1     0     3     2     1     1\n", 4),
+        ("     1     1     0     3     2     1     2\n", 4),
+        ("     1     1     0     3     2     1     4\n", 4),
+        ("     1     1     0     3     2     1     0\n", 4),
+        ("     1     1     0     3     2     1    0x\n", 1),
+        ("     1     1     0     3     2     1      \n", 1),
+        ("     1     1     0     3     2     1\n", 1),
+        ("     1     1     2     2     2     1\n", 1),
+        ("     0     1     0     2     2     1\n", 3),
     ];
     for before in [0, 1, 2, 57, 198] {
         let after = [0, 1, 199 - before];
@@ -447,6 +470,7 @@ fn the_first_fault_decides() {
     let place = "     1     2     0     1     1\n";
     let length = "     0     1     0     1     1\n";
     let list = "     1     1     0     1     3\n";
+    let order = "     1     1     0     2     2     1\n";
     let form = "     1     1     0     1    0x\n";
     let mark = "     1     1     2     1     1\n";
     let open = "     1           1     1     1\n";
@@ -454,6 +478,7 @@ fn the_first_fault_decides() {
         (place, 5),
         (length, 3),
         (list, 4),
+        (order, 13),
         (form, 1),
         (mark, 1),
         (open, 5),
@@ -491,12 +516,12 @@ fn the_first_fault_decides() {
 #[test]
 fn list_of_all_instruments() {
     for m in 1..=24u32 {
-        let list: Vec<u32> = (1..=m).rev().collect();
+        let list: Vec<u32> = (1..=m).collect();
         let draft = Draft::new(m, &[(5, 0, &list)]);
         let sheet = read(&draft.render()).unwrap();
-        assert_eq!(sheet.batches()[0].place, m);
+        assert_eq!(sheet.batches()[0].place, 1);
         assert_eq!(read(&draft.without_places().render()), Ok(sheet));
-        let started = Draft::new(m, &[(5, 1, &list)]).all_started();
+        let started = Draft::new(m, &[(5, m, &list)]).all_started();
         assert_eq!(read(&started.render()).unwrap().batches()[0].list, list);
         for bad in [0, m + 1] {
             for k in 0..m as usize {
@@ -508,10 +533,14 @@ fn list_of_all_instruments() {
         }
         for k in 1..m as usize {
             for i in 0..k {
-                let mut list = list.clone();
-                list[k] = list[i];
-                let file = Draft::new(m, &[(5, 0, &list)]).render();
+                let mut repeated = list.clone();
+                repeated[k] = list[i];
+                let file = Draft::new(m, &[(5, 0, &repeated)]).render();
                 assert_eq!(refused(&file), (4, 3));
+                let mut swapped = list.clone();
+                swapped.swap(i, k);
+                let file = Draft::new(m, &[(5, 0, &swapped)]).render();
+                assert_eq!(refused(&file), (13, 3));
             }
         }
         let longer: Vec<u32> = (1..=m + 1).collect();

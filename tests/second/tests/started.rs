@@ -133,16 +133,16 @@ fn starting() {
     assert_eq!(sheet.batches()[0].qualified(), [2]);
     // One that is added has not started, and those behind one that is withdrawn
     // keep their marks.
-    sheet.add(5, &[2, 1]).unwrap();
+    sheet.add(5, &[1, 2]).unwrap();
     sheet.start(4).unwrap();
     sheet.withdraw(2).unwrap();
     let marks: Vec<bool> = sheet.batches().iter().map(|b| b.started).collect();
     assert_eq!(marks, [true, false, true]);
-    sheet.add(5, &[2, 1]).unwrap();
+    sheet.add(5, &[1, 2]).unwrap();
     assert!(!sheet.batches()[3].started);
 }
 
-/// Every order of 6, 11, 4 and 5, on a sheet of three instruments whose first
+/// Every order of 6, 11, 4, 13 and 5, on a sheet of three instruments whose first
 /// and third batches have started.
 #[test]
 fn which_refusal_comes_first() {
@@ -160,13 +160,17 @@ fn which_refusal_comes_first() {
             other => panic!("{other:?}"),
         }
     };
-    let lists: [(&[u64], bool); 6] = [
-        (&[1], true),
-        (&[3, 2, 1], true),
-        (&[], false),
-        (&[4], false),
-        (&[1, 1], false),
-        (&[1, 2, 3, 4], false),
+    let lists: [(&[u64], u32); 10] = [
+        (&[1], 0),
+        (&[1, 2, 3], 0),
+        (&[], 4),
+        (&[4], 4),
+        (&[1, 1], 4),
+        (&[1, 2, 3, 4], 4),
+        (&[2, 1], 13),
+        (&[3, 1, 2], 13),
+        (&[2, 1, 1], 4),
+        (&[2, 1, 4], 4),
     ];
     for number in [0, 1, 2, 3, 4, 257, 258, 259, 1 << 32, u64::MAX] {
         let (there, started) = ((1..=3).contains(&number), number == 1 || number == 3);
@@ -179,9 +183,12 @@ fn which_refusal_comes_first() {
         };
         assert_eq!(refusal(&Call::Withdraw { number }), due(true, 0));
         assert_eq!(refusal(&Call::Start { number }), due(true, 0));
-        for (list, good) in lists {
-            let list = list.to_vec();
-            assert_eq!(refusal(&Call::Requalify { number, list }), due(good, 4));
+        for (list, bad) in lists {
+            let call = Call::Requalify {
+                number,
+                list: list.to_vec(),
+            };
+            assert_eq!(refusal(&call), due(bad == 0, bad));
         }
         for instrument in [0, 1, 2, 3, 4, 257, u64::MAX] {
             // A started batch is not even moved to where it is.

@@ -56,7 +56,8 @@ fn the_order() {
     assert_eq!(refused(1, &[0], &file), (3, 200));
 }
 
-/// A list may have any number of members and be of the form; more than m are 4.
+/// A list may have any number of members and be of the form; more than m are 4,
+/// whatever their order.
 #[test]
 fn long_lists() {
     let ascending = |n: usize| (1..=n).map(|j| j.to_string()).collect::<Vec<_>>().join(",");
@@ -67,7 +68,12 @@ fn long_lists() {
         assert_eq!(sheet.batches()[0].list.len(), n);
     }
     for n in [25, 26, 30, 1_000, 1_000_000] {
-        for list in [vec!["1"; n].join(","), vec!["999999"; n].join(",")] {
+        let falling: Vec<String> = (0..n).rev().map(|j| j.to_string()).collect();
+        for list in [
+            vec!["1"; n].join(","),
+            vec!["999999"; n].join(","),
+            falling.join(","),
+        ] {
             let row = row(&list);
             assert_eq!(refused(24, &calibrations, row.as_bytes()), (4, 1));
             // But it is judged whole for its form first.
@@ -88,7 +94,7 @@ fn long_lists() {
 #[test]
 fn as_the_sheet() {
     let mut rng = Rng::new(61);
-    let mut met = [0; 13];
+    let mut met = [0; 14];
     for round in 0..30_000 {
         let shape = match round % 100 {
             0 => gen::FULL,
@@ -112,7 +118,7 @@ fn as_the_sheet() {
         met[read.map_or_else(|fault| fault.refusal.number(), |_| 0) as usize] += 1;
     }
     println!("by refusal: {met:?}");
-    for refusal in [0, 1, 3, 4, 5] {
+    for refusal in [0, 1, 3, 4, 5, 13] {
         assert!(met[refusal] >= 1_000, "{met:?}");
     }
 }
@@ -121,7 +127,7 @@ fn as_the_sheet() {
 #[test]
 fn damaged() {
     let mut rng = Rng::new(62);
-    let mut met = [0; 13];
+    let mut met = [0; 14];
     let mut later = 0;
     for round in 0..60_000 {
         let mut draft = gen::draft(&mut rng, gen::SMALL);
@@ -157,6 +163,7 @@ fn damaged() {
         (4, 2_000),
         (5, 800),
         (12, 30_000),
+        (13, 500),
     ] {
         assert!(met[refusal] >= least, "{met:?}");
     }

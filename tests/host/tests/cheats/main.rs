@@ -39,16 +39,16 @@ fn astray(sheet: &[u8], journal: &[u8], ways: Ways) -> Option<Vec<u8>> {
 fn verdict(which: usize, call: impl Fn(&[u8], &[u8], &mut [u8]) -> Hosted) -> Result<(), String> {
     let open = "     3     3
      0     0     0
-    30     0     0     2     3     2
-    20           0     3     2     1     3
-    10     1     0     2     3     1
+    30     0     0     2     2     3
+    20           0     3     1     2     3
+    10     3     0     2     1     3
 ";
     // Balance leaves it, settle does not.
     let unsettled = "     2     4
      0     0
      2     2     0     1     2
-     4     1     0     2     2     1
-     5     1     0     2     2     1
+     4     1     0     2     1     2
+     5     1     0     2     1     2
      2     2     0     2     1     2
 ";
     // Settling moves a batch away and back.
@@ -71,8 +71,8 @@ fn verdict(which: usize, call: impl Fn(&[u8], &[u8], &mut [u8]) -> Hosted) -> Re
     let group = "     3     3
     25    25     0
     30     1     0     2     1     2
-    30     2     0     2     2     1
-    10     1     0     3     3     2     1
+    30     2     0     2     1     2
+    10     1     0     3     1     2     3
 ";
     let only = "     2     0\n   240   239\n";
     // One batch more is just taken.
@@ -105,12 +105,12 @@ fn verdict(which: usize, call: impl Fn(&[u8], &[u8], &mut [u8]) -> Hosted) -> Re
         &mark,
         &no_place,
     ];
-    let edits = "     4     1     2\n     2     9\n     3     3     2     2     1\n     2     2\n";
+    let edits = "     4     1     2\n     2     9\n     3     3     1     2\n     2     2\n";
     let journals = [
         String::new(),
         "     5\n     4     1     2\n     5\n     7     4\n     8     4\n".into(),
         edits.into(),
-        format!("{edits}     1    15     1     1\n     1    15     2     2     1\n"),
+        format!("{edits}     1    15     1     1\n     1    15     2     1     2\n     1    15     2     2     1\n"),
         "     4     1     2\n     6     0\n     5\n".into(),
         "     7     3\n     5\n".into(),
         "     8     4\n     5\n".into(),

@@ -194,7 +194,7 @@ pub const WRITTEN: [Cheat; 30] = [
         })
     }),
     (
-        "leaves the place of the first listed blank",
+        "leaves the place of the lowest listed blank",
         |call, sheet, journal, text| {
             changed(call(sheet, journal, text), text, |draft| {
                 for line in &mut draft.lines {
@@ -204,7 +204,7 @@ pub const WRITTEN: [Cheat; 30] = [
         },
     ),
     (
-        "writes the first listed for a place",
+        "writes the lowest listed for a place",
         |call, sheet, journal, text| {
             changed(call(sheet, journal, text), text, |draft| {
                 for line in &mut draft.lines {
@@ -227,9 +227,9 @@ pub const WRITTEN: [Cheat; 30] = [
             })
         },
     ),
-    ("sorts a list", |call, sheet, journal, text| {
+    ("writes a list backwards", |call, sheet, journal, text| {
         changed(call(sheet, journal, text), text, |draft| {
-            draft.lines.iter_mut().for_each(|line| line.list.sort());
+            draft.lines.iter_mut().for_each(|line| line.list.reverse());
         })
     }),
     (

@@ -374,7 +374,7 @@ pub fn either<A: Common>() -> Vec<Cheat<A>> {
             })
         }),
         (
-            "puts batches on the first listed",
+            "puts batches on the lowest listed",
             |_, sheet, moves, written| {
                 made(sheet, moves, written, |made: &mut Made<A>| {
                     let mut draft = Draft::from(&sheet_of(sheet));

@@ -125,8 +125,8 @@ fn verdict<A: Common>(call: impl Fn(&[u8], &mut [Move], &mut [u8]) -> A) -> Resu
         "     2     4
      0     0
      2     2     0     1     2
-     4     1     0     2     2     1
-     5     1     0     2     2     1
+     4     1     0     2     1     2
+     5     1     0     2     1     2
      2     2     0     2     1     2
 ",
         // Of two batches that gain the second is longer.
@@ -150,8 +150,8 @@ fn verdict<A: Common>(call: impl Fn(&[u8], &mut [Move], &mut [u8]) -> A) -> Resu
         "     3     3
     25    25     0
     30     1     0     2     1     2
-    30     2     0     2     2     1
-    10     1     0     3     3     2     1
+    30     2     0     2     1     2
+    10     1     0     3     1     2     3
 ",
         "     2     0\n   240   239\n",
         &SHEET.replace("     0     0", "     0   241"),

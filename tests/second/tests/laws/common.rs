@@ -136,7 +136,7 @@ pub fn chain(rng: &mut Rng) -> Sheet {
             let list = match rng.below(4) {
                 0 => vec![j],
                 1 if rng.once_in(3) => gen::list(rng, m, 2),
-                _ => vec![next, j],
+                _ => vec![j.min(next), j.max(next)],
             };
             lines.push(Line {
                 length: rng.within(1, 12),

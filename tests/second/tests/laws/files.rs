@@ -72,7 +72,7 @@ fn good_and_damaged() {
         records: |answer: &Settled| &answer.records,
     };
     let mut rng = Rng::new(61);
-    let mut refusals = [0; 12];
+    let mut refusals = [0; 14];
     for round in 0..6_000 {
         let shape = match round % 100 {
             0 => gen::FULL,
@@ -102,7 +102,7 @@ fn good_and_damaged() {
             }
         }
     }
-    for number in [0, 1, 2, 3, 4, 5, 9, 10] {
+    for number in [0, 1, 2, 3, 4, 5, 9, 10, 13] {
         assert!(refusals[number] > 50, "{refusals:?}");
     }
 }

@@ -113,12 +113,15 @@ fn line_faults(text: &Text, m: u32) -> (Faults, Line) {
             }
             list.extend(text.field(k));
         }
+        if list.windows(2).any(|pair| pair[1] < pair[0]) {
+            faults.note(last, 13, text.line);
+        }
         if !text.ends_after(last) {
-            faults.note(last, 1, text.line);
+            faults.note(last + 1, 1, text.line);
         }
         let given = place.filter(|&place| place != 0);
         if given.map_or(mark == 1, |place| !list.contains(&place)) {
-            faults.note(last + 1, 5, text.line);
+            faults.note(last + 2, 5, text.line);
         }
     }
     (
@@ -171,7 +174,8 @@ fn read_laws(file: &[u8]) -> Result<Sheet, Fault> {
             // The file is the very text of the sheet, places not given apart.
             assert_eq!(draft.render(), file);
             for line in &mut draft.lines {
-                line.place = Some(line.given().unwrap_or(line.list[0]));
+                let lowest = line.list.iter().copied().min();
+                line.place = line.given().or(lowest);
             }
             assert_eq!(Draft::from(sheet), draft);
         }
@@ -210,7 +214,7 @@ fn damaged_files() {
     let mut rng = Rng::new(12);
     let (mut sound, mut blank, mut started) = (0, 0, 0);
     let (mut bad_mark, mut no_place) = (0, 0);
-    let mut by_number = [0; 12];
+    let mut by_number = [0; 14];
     for round in 0..30_000 {
         let shape = if round % 8 == 0 {
             gen::MEDIUM
@@ -248,10 +252,12 @@ fn damaged_files() {
     assert!(sound > 100 && blank > 100, "{sound}, {blank} of them blank");
     let counts = [started, bad_mark, no_place];
     assert!(counts.into_iter().all(|count| count > 100), "{counts:?}");
-    for number in [1, 2, 3, 4, 5, 10] {
+    for number in [1, 2, 3, 4, 5, 10, 13] {
         assert!(by_number[number] > 100, "{by_number:?}");
     }
-    assert_eq!((by_number[11], &by_number[6..10]), (0, &[0; 4][..]));
+    for number in [6, 7, 8, 9, 11, 12] {
+        assert_eq!(by_number[number], 0, "{by_number:?}");
+    }
 }
 
 /// Every batch line that can be made of up to seven numbers, blanks and LFs.
@@ -259,26 +265,30 @@ fn damaged_files() {
 fn every_short_line() {
     const HEAD: &[u8] = b"     2     1\n     0   240\n";
     const PIECES: [&[u8]; 5] = [b"     0", b"     1", b"     2", b"      ", b"\n"];
-    let (mut sound, mut blank, mut started) = (0, 0, 0);
+    let (mut sound, mut blank, mut started, mut unordered) = (0, 0, 0, 0);
     let mut lines: Vec<Vec<u8>> = vec![Vec::new()];
     for _ in 0..=7 {
         for line in &lines {
             let file = [HEAD, line.as_slice()].concat();
-            if let Ok(sheet) = read_laws(&file) {
-                sound += 1;
-                blank += gen::blank_places(&file);
-                started += sheet.batches()[0].started as u32;
+            match read_laws(&file) {
+                Ok(sheet) => {
+                    sound += 1;
+                    blank += gen::blank_places(&file);
+                    started += sheet.batches()[0].started as u32;
+                }
+                Err(fault) => unordered += (fault.refusal == Refusal::Order) as u32,
             }
         }
         let longer = |line: &Vec<u8>| PIECES.map(|piece| [line, piece].concat());
         lines = lines.iter().flat_map(longer).collect();
     }
-    // Two lengths. A list of one has that place, 0 or a blank one, a list of two
-    // in either order has both places, 0 or a blank one. One that has started has
-    // neither 0 nor a blank.
-    assert_eq!(started, 2 * (2 + 2 * 2));
-    assert_eq!(sound, started + 2 * (2 * 3 + 2 * 4));
-    assert_eq!(blank, 2 * (2 + 2));
+    // Two lengths. A list of one has that place, 0 or a blank one, the list of two
+    // both places, 0 or a blank one. One that has started has neither 0 nor a blank.
+    assert_eq!(started, 2 * (2 + 2));
+    assert_eq!(sound, started + 2 * (2 * 3 + 4));
+    assert_eq!(blank, 2 * (2 + 1));
+    // Two and one, with either mark, any of four places, and no LF or any next piece.
+    assert_eq!(unordered, 2 * 2 * 4 * (1 + 5));
 }
 
 /// Every line 2 that can be made of up to four numbers, blanks and LFs, for one

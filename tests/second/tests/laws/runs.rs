@@ -16,6 +16,11 @@ fn good_list(list: &[u64], m: u32) -> bool {
     different && !list.is_empty() && list.iter().all(|j| (1..=m as u64).contains(j))
 }
 
+/// Is none of the list smaller than the one before it?
+fn ascends(list: &[u64]) -> bool {
+    list.windows(2).all(|pair| pair[0] <= pair[1])
+}
+
 /// The refusal due to a call: the first of its checks that does not hold.
 fn refusal_due(book: &Draft, call: &Call) -> Option<Refusal> {
     let there = |number: u64| 1 <= number && number <= book.lines.len() as u64;
@@ -36,6 +41,7 @@ fn refusal_due(book: &Draft, call: &Call) -> Option<Refusal> {
             (book.lines.len() < 200, Refusal::Full),
             (1 <= *length && *length <= 1440, Refusal::Length),
             (good_list(list, m), Refusal::List),
+            (ascends(list), Refusal::Order),
         ],
         Call::Withdraw { number } | Call::Start { number } => &[
             (there(*number), Refusal::NoBatch),
@@ -45,6 +51,7 @@ fn refusal_due(book: &Draft, call: &Call) -> Option<Refusal> {
             (there(*number), Refusal::NoBatch),
             (waits(*number), Refusal::Started),
             (good_list(list, m), Refusal::List),
+            (ascends(list), Refusal::Order),
         ],
         Call::Move { number, instrument } => &[
             (there(*number), Refusal::NoBatch),
@@ -70,7 +77,7 @@ fn enter(book: &mut Draft, call: &Call) -> Answer {
     match call {
         Call::Add { length, list } => book.lines.push(Line {
             length: *length as u32,
-            place: Some(list[0] as u32),
+            place: list.iter().min().map(|&j| j as u32),
             mark: 0,
             list: narrow(list),
         }),
@@ -81,7 +88,7 @@ fn enter(book: &mut Draft, call: &Call) -> Answer {
             let line = &mut book.lines[*number as usize - 1];
             line.list = narrow(list);
             let kept = line.place.filter(|place| line.list.contains(place));
-            line.place = Some(kept.unwrap_or(line.list[0]));
+            line.place = kept.or(line.list.iter().copied().min());
         }
         Call::Move { number, instrument } => {
             book.lines[*number as usize - 1].place = Some(*instrument as u32);
@@ -134,7 +141,7 @@ fn run_laws(draft: &Draft, calls: &[Call]) -> Vec<Answer> {
 #[test]
 fn runs() {
     let mut rng = Rng::new(31);
-    let mut refusals = [0; 12];
+    let mut refusals = [0; 14];
     let (mut balanced, mut settled, mut records) = (0, 0, 0);
     for round in 0..4000 {
         let (shape, count) = match round % 10 {
@@ -159,7 +166,7 @@ fn runs() {
             }
         }
     }
-    for number in [3, 4, 5, 6, 8, 9, 11] {
+    for number in [3, 4, 5, 6, 8, 9, 11, 13] {
         assert!(refusals[number] > 200, "{refusals:?}");
     }
     let counts = [balanced, settled, records];

@@ -44,12 +44,13 @@ fn accepted_files() {
     assert!(counts.into_iter().all(|count| count > 300), "{counts:?}");
 }
 
-/// What calls leave is written and read back as any sheet is; lists that do
-/// not ascend and places that are not the first listed are met often.
+/// What calls leave is written and read back as any sheet is; places that are not
+/// the lowest listed are met often. The text is the same where the sheet is, and
+/// only there.
 #[test]
 fn after_calls() {
     let mut rng = Rng::new(52);
-    let (mut unordered, mut elsewhere, mut changed, mut kept) = (0, 0, 0, 0);
+    let (mut elsewhere, mut changed, mut kept) = (0, 0, 0);
     let (mut started, mut longer) = (0, 0);
     for round in 0..600 {
         let shape = SHAPES[if round % 20 == 0 { 2 } else { round % 2 }];
@@ -57,8 +58,10 @@ fn after_calls() {
         let (m, n) = (sheet.instruments(), sheet.batches().len() as u32);
         let mut before = write_laws(&sheet);
         for call in gen::calls(&mut rng, m, n, shape.lengths.1, 12) {
+            let was = sheet.clone();
             apply(&mut sheet, &call);
             let after = write_laws(&sheet);
+            assert_eq!(before == after, was == sheet);
             if before == after {
                 kept += 1;
             } else {
@@ -67,12 +70,11 @@ fn after_calls() {
             before = after;
         }
         for batch in sheet.batches() {
-            unordered += !batch.list.is_sorted() as u32;
             elsewhere += (batch.place != batch.list[0]) as u32;
             started += batch.started as u32;
             longer += (batch.started && batch.list.len() > 1) as u32;
         }
     }
-    let counts = [unordered, elsewhere, changed, kept, started, longer];
+    let counts = [elsewhere, changed, kept, started, longer];
     assert!(counts.into_iter().all(|count| count > 1_000), "{counts:?}");
 }
