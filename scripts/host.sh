@@ -93,7 +93,11 @@ sed '3s/^\(............\)     1/\1     2/' "$top/examples/started.txt" >sheet
 refused "host: sheet: line 3: refusal 1, not of a sheet's form" sheet "$top/examples/journal.txt"
 sed '3s/^    30     1/    30      /' "$top/examples/started.txt" >sheet
 refused "host: sheet: line 3: refusal 5, place not in the list, or none for a started batch" sheet "$top/examples/journal.txt"
-# sheets of older forms: without marks, and without line 2 too
+sed '5s/     1     2$/     2     1/' "$top/examples/sheet.txt" >sheet
+refused "host: sheet: line 5: refusal 13, list of qualified instruments does not ascend" sheet "$top/examples/journal.txt"
+# sheets of older forms: with lists out of order, without marks, and without line 2 too
+awk 'NR > 2 { s = substr($0, 1, 24); for (i = length($0) - 5; i > 24; i -= 6) s = s substr($0, i, 6); $0 = s } { print }' "$top/examples/blank.txt" >unordered
+refused "host: unordered: line 3: refusal 13, list of qualified instruments does not ascend" unordered "$top/examples/journal.txt"
 sed '3,$s/^\(............\)     0/\1/' "$top/examples/calibrated.txt" >unmarked
 refused "host: unmarked: line 3: refusal 1, not of a sheet's form" unmarked "$top/examples/journal.txt"
 sed -e '3,$s/^\(............\)     0/\1/' -e 2d "$top/examples/sheet.txt" >uncalibrated
@@ -102,18 +106,25 @@ refused "host: uncalibrated: line 2: refusal 1, not of a sheet's form" uncalibra
 bring() {
     bash -c "$(sed -n "$1p" bring) $2"
 }
-# and README's two commands bring them along, one kind each
+# and README's three commands bring them along, one kind each
 sed -n 's/^    \(awk .*\) OLD > NEW$/\1/p' "$top/README.md" >bring
-[ "$(wc -l <bring)" = 2 ] || fail "README.md has not two commands for sheets of older forms"
-bring 1 unmarked | cmp -s - "$top/examples/calibrated.txt" || fail "README.md's command does not add the marks"
-bring 2 uncalibrated | cmp -s - "$top/examples/sheet.txt" || fail "README.md's command does not add line 2 and the marks"
+[ "$(wc -l <bring)" = 3 ] || fail "README.md has not three commands for sheets of older forms"
+# a place left open is then the one listed first, but a started batch gets none
+sed -e '3s/^\(......\)      /\1     3/' -e '5s/^\(......\)      /\1     3/' -e '6s/^\(......\)     0/\1     3/' "$top/examples/blank.txt" >ordered
+bring 1 unordered | cmp -s - ordered || fail "README.md's command does not put lists in order"
+bring 1 ordered | cmp -s - ordered || fail "README.md's command changes a sheet whose lists ascend"
+sed '6s/^\(......\)     0     0/\1     0     1/' unordered >begun
+bring 1 begun >sheet
+refused "host: sheet: line 6: refusal 5, place not in the list, or none for a started batch" sheet "$top/examples/journal.txt"
+bring 2 unmarked | cmp -s - "$top/examples/calibrated.txt" || fail "README.md's command does not add the marks"
+bring 3 uncalibrated | cmp -s - "$top/examples/sheet.txt" || fail "README.md's command does not add line 2 and the marks"
 # but a sheet that went through the wrong one, or through one twice, is refused
 for name in sheet calibrated blank started; do
     sed '3,$s/^\(............\)....../\1/' "$top/examples/$name.txt" >unmarked
     sed 2d unmarked >uncalibrated
-    bring 1 unmarked >marked
-    bring 2 uncalibrated >calibrated
-    for pair in "2 unmarked" "1 uncalibrated" "1 marked" "2 calibrated"; do
+    bring 2 unmarked >marked
+    bring 3 uncalibrated >calibrated
+    for pair in "3 unmarked" "2 uncalibrated" "2 marked" "3 calibrated"; do
         bring ${pair% *} ${pair#* } >astray
         status=0
         ./host astray "$top/examples/journal.txt" >out 2>said || status=$?

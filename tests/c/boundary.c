@@ -185,7 +185,6 @@ static const bankplan_move two_go[] = {{2, 1, 2}, {4, 2, 1}};
 static const char unordered[] = "     2     1\n"
                                 "     0     0\n"
                                 "    10     1     0     2     2     1\n";
-enum { NOT_ASCENDING = 13 };
 /* says what the first sheet says */
 static const char worklist[] = "30,1,0,\"1,2\"\r\n"
                                "\"20\",,0,1\r\n"
@@ -202,13 +201,13 @@ static void sheets(void)
     CHECK(answered(plan("     2     1\n     0     0\n    10     0     0     2     1     1\n", ROOM), BANKPLAN_BAD_LIST, 3, 0) && holds(""));
     CHECK(answered(plan("     2     1\n     0     0\n    10     2     0     1     1\n", ROOM), BANKPLAN_BAD_PLACE, 3, 0) && holds(""));
     /* a list that does not ascend, after the whole list and before the LF and the place */
-    CHECK(answered(plan(unordered, ROOM), NOT_ASCENDING, 3, 0) && holds(""));
-    CHECK(answered(plan("     2     1\n     0     0\n    10     9     0     2     2     1", ROOM), NOT_ASCENDING, 3, 0) && holds(""));
+    CHECK(answered(plan(unordered, ROOM), BANKPLAN_BAD_ORDER, 3, 0) && holds(""));
+    CHECK(answered(plan("     2     1\n     0     0\n    10     9     0     2     2     1", ROOM), BANKPLAN_BAD_ORDER, 3, 0) && holds(""));
     CHECK(answered(plan("     2     1\n     0     0\n    10     1     0     2     2     2\n", ROOM), BANKPLAN_BAD_LIST, 3, 0) && holds(""));
-    CHECK(answered(write_back(unordered, "", 0), NOT_ASCENDING, 3, 0) && holds(""));
-    CHECK(answered(run(unordered, "     5\n", ROOM), NOT_ASCENDING, 3, 0) && holds(""));
-    CHECK(refused_balance(balance(unordered, ENTRIES, ROOM), NOT_ASCENDING, 3));
-    CHECK(refused_settle(settle(unordered, 0, 0), NOT_ASCENDING, 3));
+    CHECK(answered(write_back(unordered, "", 0), BANKPLAN_BAD_ORDER, 3, 0) && holds(""));
+    CHECK(answered(run(unordered, "     5\n", ROOM), BANKPLAN_BAD_ORDER, 3, 0) && holds(""));
+    CHECK(refused_balance(balance(unordered, ENTRIES, ROOM), BANKPLAN_BAD_ORDER, 3));
+    CHECK(refused_settle(settle(unordered, 0, 0), BANKPLAN_BAD_ORDER, 3));
     /* a blank place is none given: the lowest; five blanks, and a blank elsewhere, are not of the form */
     CHECK(answered(plan("     3     1\n     0     0     0\n    10           0     2     2     3\n", ROOM), 0, 0, 43 + 7 + 19) &&
           holds("    10    10     0     0     0           0\n     0\n     1     2    10\n"));
@@ -372,7 +371,7 @@ static void worklists(void)
     CHECK(answered(take(2, "30,9,2,3", ROOM), BANKPLAN_MALFORMED, 1, 0) && holds(""));
     CHECK(answered(take(2, "30,9,0,3", ROOM), BANKPLAN_BAD_LIST, 1, 0) && holds(""));
     CHECK(answered(take(2, "30,9,0,\"2,1,1\"", ROOM), BANKPLAN_BAD_LIST, 1, 0) && holds(""));
-    CHECK(answered(take(2, "30,9,0,\"2,1\"", ROOM), NOT_ASCENDING, 1, 0) && holds(""));
+    CHECK(answered(take(2, "30,9,0,\"2,1\"", ROOM), BANKPLAN_BAD_ORDER, 1, 0) && holds(""));
     CHECK(answered(take(2, "30,1,0,1\r\n30,2,0,1", ROOM), BANKPLAN_BAD_PLACE, 2, 0) && holds(""));
     CHECK(answered(take(2, "30,1,0,1\r\n30,,1,1", ROOM), BANKPLAN_BAD_PLACE, 2, 0) && holds(""));
     CHECK(answered(take(2, "0,1,0,1\r\n30,1,0,1\r\n30", ROOM), BANKPLAN_BAD_WORKLIST, 3, 0) && holds(""));
@@ -642,7 +641,7 @@ static void largest(void)
           holds(""));
     /* the last list out of order, with an instrument twice, and with one too many */
     strcpy(rows + strlen(rows) - 8, "24,23\"\r\n");
-    CHECK(answered(bankplan_take(BANKPLAN_MOST_INSTRUMENTS, longest, i, (const uint8_t *)rows, strlen(rows), buffer, ROOM), NOT_ASCENDING,
+    CHECK(answered(bankplan_take(BANKPLAN_MOST_INSTRUMENTS, longest, i, (const uint8_t *)rows, strlen(rows), buffer, ROOM), BANKPLAN_BAD_ORDER,
                    BANKPLAN_MOST_BATCHES, 0) &&
           holds(""));
     strcpy(rows + strlen(rows) - 8, "23,23\"\r\n");
