@@ -103,8 +103,8 @@ typedef struct bankplan_move {
 
 /* What bankplan_balance answers. On a refusal all but refusal and line is 0. */
 typedef struct bankplan_balanced {
-    uint32_t refusal;                         /* 0 for none, 1 to 5, 9, or 10 */
-    size_t line;                              /* the sheet's line of refusals 1 to 5 and 10, from 1; otherwise 0 */
+    uint32_t refusal;                         /* 0 for none, 1 to 5, 9, 10, or 13 */
+    size_t line;                              /* the sheet's line of refusals 1 to 5, 10 and 13, from 1; otherwise 0 */
     size_t length;                            /* the bytes of the written sheet */
     uint32_t finish;                          /* the finish that balance leaves; the rest is as in a listing */
     uint32_t floor;

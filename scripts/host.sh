@@ -116,6 +116,13 @@ bring 1 ordered | cmp -s - ordered || fail "README.md's command changes a sheet 
 sed '6s/^\(......\)     0     0/\1     0     1/' unordered >begun
 bring 1 begun >sheet
 refused "host: sheet: line 6: refusal 5, place not in the list, or none for a started batch" sheet "$top/examples/journal.txt"
+# and what is not of the form stays so: bytes after the last field, a place that is no number
+sed '4s/$/    2/' unordered >sheet
+bring 1 sheet >astray
+refused "host: astray: line 4: refusal 13, list of qualified instruments does not ascend" astray "$top/examples/journal.txt"
+sed '6s/^\(......\)     0/\1    00/' unordered >sheet
+bring 1 sheet >astray
+refused "host: astray: line 6: refusal 1, not of a sheet's form" astray "$top/examples/journal.txt"
 bring 2 unmarked | cmp -s - "$top/examples/calibrated.txt" || fail "README.md's command does not add the marks"
 bring 3 uncalibrated | cmp -s - "$top/examples/sheet.txt" || fail "README.md's command does not add line 2 and the marks"
 # but a sheet that went through the wrong one, or through one twice, is refused

@@ -1,25 +1,21 @@
--- The list of a batch line, an instrument at a time.
-use Prim.Native.Nat.{ℕ, zero, suc, _+_, _-_, _≤_, _<_}
+-- The list of a batch line, an instrument at a time, and the end of the line.
+use Prim.Native.Nat.{ℕ, suc, _+_, _-_, _≤_, _<_}
 use mathlib.Core.Path.{_≡_, refl, sym, ap, _∙_}
 use mathlib.Core.Bool.{Bool, true, false, not}
 use mathlib.Core.List.{List, [], _∷_, _++_}
 use native.Mathlib.Numerals.{add-one}
 use native.Mathlib.Omega.{arith}
-use lib.Dec.{leb, eqb}
+use lib.Dec.{leb}
 use lib.ListN.{length, set, take, drop, replicate, length-set, take-append-drop}
 use lib.Seq.{drop-drop, drop-set-lt, length-take-le, take-suc-set}
-use borrow.Author.Tests.{ne-eqb}
-use Rattle.rules.specs.Fold.{pick, _and_, _or_, mem, every}
+use Rattle.rules.specs.Fold.{_and_, mem}
 use Rattle.rules.specs.Refusal.{malformed, badList, badOrder}
 use Rattle.rules.specs.Sheet.{Batch, isInstrument}
 use Rattle.rules.specs.Read.{Part, gives, refuses, andThen, orRefuse, numberAt, instrumentsAt}
-use Rattle.theory.proofs.Logic.{byTest, and-no-right, or-left, or-skip}
-use Rattle.theory.proofs.Member.{mem-head, every-mem}
 use Rattle.sheet.specs.declared.Refusal.{Refusal}
 use Rattle.sheet.specs.declared.Refusal.the-variants.{Nothing}
 use Rattle.sheet.specs.Represent.{padded}
 use Rattle.reading.specs.Lines.{noLine, lineAs, badEnd}
-use Rattle.sheet.proofs.Scan.{in-range}
 
 -- ---- a row of 24 entries with k used
 

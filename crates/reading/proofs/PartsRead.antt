@@ -3,22 +3,16 @@ use Prim.Native.Nat.{ℕ, suc, _+_, _-_, _≤_}
 use mathlib.Core.Path.{_≡_, refl, sym, ap, _∙_}
 use mathlib.Core.List.{List, [], _∷_, _++_}
 use native.Mathlib.Omega.{arith}
-use denote.Enum.Declared.{tagOf}
-use types.Run.{OneOf, miss}
 use lib.ListN.{length, drop, length-drop}
 use lib.Seq.{drop-drop}
-use Rattle.rules.specs.Refusal.{malformed, badSize, badLength, badList, badPlace, noBatch, sheetFull, levelAbove, bufferShort, badCalibration, hasStarted, badWorklist, badOrder}
-use Rattle.rules.specs.Refusal as R
 use Rattle.rules.specs.Sheet.{Batch}
 use Rattle.rules.specs.Read.{Part, gives, refuses, batchLine, Reading, onLine, batchLines}
 use Rattle.rules.specs.Render.{mark}
-use Rattle.sheet.specs.declared.Refusal.{Refusal}
 use Rattle.sheet.specs.declared.Refusal.the-variants.{Nothing}
 use Rattle.reading.specs.declared.Line.{Line}
 use Rattle.sheet.specs.Represent.{padded}
-use Rattle.sheet.specs.Answers.{coded, readAs, unread}
+use Rattle.sheet.specs.Answers.{readAs, unread}
 use Rattle.reading.specs.Lines.{lineAs}
-use Rattle.sheet.proofs.Refusal.{the-type}
 use Rattle.sheet.proofs.Refusals.{coded-none}
 use Rattle.theory.proofs.Extent.{took, short, batch-near}
 

@@ -8,7 +8,7 @@ use mathlib.Core.Bool.{Bool, true, false}
 use mathlib.Core.List.{List, [], _∷_, map, _++_}
 use lib.ListN.{length, replicate}
 use Rattle.rules.specs.Fold.{_and_, _or_, mem, every, sumTo, most, maxTo, orElse, firstTo, anyTo, allTo, lesser, leastTo, greater, greatestTo, thoseTo, listTo}
-use Rattle.rules.specs.Refusal.{malformed, badSize, badLength, badList, badPlace, badCalibration, badOrder, noBatch, hasStarted, levelAbove, bufferShort}
+use Rattle.rules.specs.Refusal.{malformed, badSize, badLength, badList, badPlace, badCalibration, badOrder, noBatch, sheetFull, hasStarted, levelAbove, bufferShort}
 use Rattle.rules.specs.Sheet.{Book, Batch, waiting, begun, isBatch, goodInstruments, goodMinutes, goodCalibration, goodCalibrations, isInstrument, distinct, goodList, ascendingFrom, ascending, goodBatch, sound}
 use Rattle.rules.specs.Field.{Field, value, blank, fault, digits, loneZero, blanks, field}
 use Rattle.rules.specs.Read.{Reading, accepted, refusedAt, numberAt, placeAt, endOfLine, headLine, calibrationsAt, calibrationLine, markAt, instrumentsAt, goodPlace, batchLine, batchLines, linesAfter, read}
@@ -233,9 +233,13 @@ single a = lines ("     2     1" ∷ "     0     0" ∷ a ∷ [])
 abbrev onSecond : List ℕ
 onSecond = single "    10     2     1     2     1     2"
 
+-- a book with 200 batches
+abbrev full : Book
+full = record { m = 2; calibrations = 0 ∷ 0 ∷ []; batches = replicate 200 (waiting 1 (1 ∷ []) 1) }
+
 -- a sheet of three instruments and two batches, the second of which has this line
 abbrev onThree : String → List ℕ
-onThree a = lines ("     3     2" ∷ "     0     0     0" ∷ "    20     2     0     2     2     3" ∷ a ∷ [])
+onThree a = lines ("     3     2" ∷ "     0     0     0" ∷ "    20     0     0     2     2     3" ∷ a ∷ [])
 
 -- ---- what is asked, and what is said
 
@@ -838,7 +842,7 @@ table =
     (readingSaid (accepted (record { m = 3; calibrations = 0 ∷ 0 ∷ 0 ∷ []; batches = waiting 20 (2 ∷ 3 ∷ []) 2 ∷ waiting 10 (1 ∷ 2 ∷ 3 ∷ []) 1 ∷ [] })))
     ∷ row 28 (reading (onThree "    10     1     0     2     2     1")) (readingSaid (refusedAt badOrder 4))
     ∷ row 28 (reading (onThree "    10     1     0     3     1     3     2")) (readingSaid (refusedAt badOrder 4))
-    -- judged after every field of the list: equal neighbours, a repeat, an instrument too many and a field without a number come before it
+    -- judged after every field of the list: equal neighbours, a repeat, an instrument that does not exist and a field without a number come before it
     ∷ row 28 (reading (onThree "    10     1     0     2     1     1")) (readingSaid (refusedAt badList 4))
     ∷ row 28 (reading (onThree "    10     1     0     3     3     1     1")) (readingSaid (refusedAt badList 4))
     ∷ row 28 (reading (onThree "    10     1     0     3     3     1     3")) (readingSaid (refusedAt badList 4))
@@ -887,6 +891,9 @@ table =
     ∷ done
     ∷ reviewSaid (30 ∷ 5 ∷ 0 ∷ []) 30 1
     ∷ []))
+    -- on a full sheet 7 comes before it, and before 3 and 4
+    ∷ row 28 (swapping full (editing (add 5 (2 ∷ 1 ∷ []))) (editing (add 0 [])))
+    (swapped false (refused sheetFull ∷ refused sheetFull ∷ []) (refused sheetFull ∷ refused sheetFull ∷ []) true)
     -- as lines of a journal
     ∷ row 28 (running p1 (lines ("     1     5     2     2     1" ∷ "     3     3     2     2     1" ∷ "     3     3     1     2" ∷ [])) (replicate 21 1))
     (hosted (record { refusal = 0; line = 0; length = 21; buffer = lines ("    13" ∷ "    13" ∷ "     0" ∷ []) }))

@@ -113,7 +113,7 @@ ascending l = ascendingFrom 0 l
 unfoldable pub goodBatch : ℕ → Batch → Bool
 goodBatch m b = goodMinutes (b .minutes) and goodList m (b .list) and ascending (b .list) and mem (b .place) (b .list)
 
--- what every sheet's book meets: all limits, and each batch on an instrument of its list
+-- what every sheet's book meets: all limits, lists that ascend, and each batch on an instrument of its list
 unfoldable pub sound : Book → Bool
 sound k =
     goodInstruments (k .m)

@@ -245,6 +245,7 @@ takeTable =
     ∷ many 201 "30,1,0,1\r\n" "" 2 0
     ∷ many 201 "0,1,0,1\r\n" "" 2 0
     ∷ many 201 "30,1,0,1\r\n" "30,1" 12 202
+    ∷ record { m = 2; calibrations = 0 ∷ 0 ∷ []; file = again 201 (bytes "30,1,0,\"2,1\"\r\n"); due = refusal 2 0 }
     -- then row by row, each in the order of a sheet's line: length, mark, list, its order, place
     ∷ many 199 "30,1,0,1\r\n" "30,2,0,1" 5 200
     ∷ at-row "0,9,2,3" 3 1

@@ -47,6 +47,10 @@ edit-keeps s e v = kept-sound s v (edit (bookOf s) e) (λ j q. edit-sound (bookO
 pub row-front : (l row : List ℕ) → row ≡ padded 24 l → take (length l) row ≡ l
 row-front l row d = ap (take (length l)) d ∙ take-at l (replicate (24 - length l) 0) (length l) refl
 
+-- m is the book's
+pub good-book : (s : Sheet) (l : List ℕ) {t : Bool} → goodList (s .m) l ≡ t → goodList (bookOf s .m) l ≡ t
+good-book s l g = ap (λ (m : ℕ). goodList m l) (book-m s) ∙ g
+
 -- a batch on m instruments may have the list l
 pub record Fit (m : ℕ) (l : List ℕ) : Type 0 where
   pub good : goodList m l ≡ true
@@ -216,7 +220,7 @@ module _ (s : Sheet) (v : Sound s) where
       (omega (arith, few-instruments s v, good-long (s .m) l (g .good) .1))
       ∙ ap (λ (x : Batch). sheetOf (withBatch (bookOf s) b (withPlace (withList x l) (kept (c .place) l))))
       (sym (number-at (bookOf s) b (r .0))) in
-      rw (← free-as _ f, ap (λ (m : ℕ). goodList m l) (book-m s) ∙ g .good, g .order)
+      rw (← free-as _ f, good-book s l (g .good), g .order)
       (ap (said Nothing)
       (u ∙ ap (λ (j : ℕ). requalified s (b - 1) j (length l) row) p
       ∙ ap (λ (j : List ℕ). requalified s (b - 1) (kept (c .place) l) (length l) j) d

@@ -1,4 +1,4 @@
--- The place taken, and whether it is listed.
+-- The place taken, and whether it is listed; and what an instrument is at most.
 use Prim.Native.Nat.{ℕ, zero, suc, _≤_, _<_}
 use mathlib.Core.Path.{_≡_, refl, sym, _∙_}
 use mathlib.Core.Bool.{Bool, true, false, not}

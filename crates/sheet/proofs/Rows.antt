@@ -1,14 +1,14 @@
 -- A row entered in a sound sheet, in its arrays: refused in the order of a batch line, or the batch is appended. And a sheet without one.
 use Prim.Native.Nat.{ℕ, _-_, _≤_, _<_}
-use mathlib.Core.Path.{_≡_, refl, sym, ap, _∙_}
+use mathlib.Core.Path.{_≡_, sym, ap, _∙_}
 use mathlib.Core.Bool.{Bool, true, false, not}
 use mathlib.Core.List.{List, [], _∷_, _++_}
 use native.Mathlib.Omega.{arith}
-use lib.ListN.{length, getD, take, replicate}
+use lib.ListN.{length, getD, take}
 use lib.Dec.{leb, eqb}
 use borrow.Author.Tests.{leb-true, le-leb, lt-leb}
 use Rattle.rules.specs.Fold.{pick, _and_, mem}
-use Rattle.rules.specs.Sheet.{goodInstruments, goodMinutes, goodCalibration, goodCalibrations, goodList}
+use Rattle.rules.specs.Sheet.{goodInstruments, goodMinutes, goodCalibration, goodCalibrations}
 use Rattle.rules.specs.Read.{goodPlace}
 use Rattle.rules.specs.Edit.{withBatches}
 use Rattle.rules.specs.Render.{mark}
@@ -24,9 +24,9 @@ use Rattle.sheet.specs.Represent.{padded, sheetOf, bookOf, Sound, append
 use Rattle.sheet.specs.Answers.{editedAs, readAs}
 use Rattle.sheet.proofs.Represent.{append-law}
 use Rattle.sheet.proofs.Place.{taken, place-listed, place-taken}
-use Rattle.sheet.proofs.SoundArrays.{book-m, book-size, few-instruments, narrow-book, good-long}
+use Rattle.sheet.proofs.SoundArrays.{book-size, few-instruments, narrow-book, good-long}
 use Rattle.sheet.specs.Change.{unfit}
-use Rattle.sheet.proofs.Edits.{said, row-front, Fit, unfit-first}
+use Rattle.sheet.proofs.Edits.{said, row-front, good-book, Fit, unfit-first}
 
 module _ (s : Sheet) (v : Sound s) (w : Row) where
   pub row-length : leb 1 (w .minutes) and leb (w .minutes) 1440 ≡ false → said BadLength s ≡ editedAs s (withRow (bookOf s) w)
@@ -63,7 +63,7 @@ module _ (s : Sheet) (v : Sound s) (w : Row) where
 
         pub row-place : mem p (take (length (w .list)) row) ≡ false → said BadPlace s ≡ editedAs s (withRow (bookOf s) w)
         unfolding withRow goodMinutes
-        row-place h = rw (e, le-leb (w .mark) 1 a, ap (λ (m : ℕ). goodList m (w .list)) (book-m s) ∙ f .good, f .order, test h)
+        row-place h = rw (e, le-leb (w .mark) 1 a, good-book s (w .list) (f .good), f .order, test h)
 
         pub row-done : (y : Sheet) → s .n < 200 → mem p (take (length (w .list)) row) ≡ true
             → y ≡ appended s (w .minutes) p (w .mark) (length (w .list)) row → said Nothing y ≡ editedAs s (withRow (bookOf s) w)
@@ -77,7 +77,7 @@ module _ (s : Sheet) (v : Sound s) (w : Row) where
             ap (λ (i : ℕ). appended s (w .minutes) (b .place) i (length (w .list)) (padded 24 (w .list))) (sym (mark-said (w .mark) a))
             ∙ ap (λ (x : Sheet). appended x (w .minutes) (b .place) (mark (eqb (w .mark) 1)) (length (w .list)) (padded 24 (w .list))) (sym (v .arrays))
             ∙ append-law (bookOf s) b (omega arith) (narrow-book s v) (omega (arith, few-instruments s v, good-long (s .m) (w .list) (f .good) .1)) in
-            rw (e, le-leb (w .mark) 1 a, ap (λ (m : ℕ). goodList m (w .list)) (book-m s) ∙ f .good, f .order, test h)
+            rw (e, le-leb (w .mark) 1 a, good-book s (w .list) (f .good), f .order, test h)
             (ap (said Nothing)
             (u ∙ ap (λ (i : ℕ). appended s (w .minutes) i (w .mark) (length (w .list)) row) o
             ∙ ap (λ (i : List ℕ). appended s (w .minutes) (b .place) (w .mark) (length (w .list)) i) d

@@ -134,7 +134,7 @@ impl Sheet {
         self.started[n] = started;
         self.counts[n] = count;
         let mut lists = self.lists;
-        enter_part(&mut lists, n * 24, &row, 24);
+        enter_part(&mut lists, n * Sheet::INSTRUMENTS, &row, Sheet::INSTRUMENTS);
         self.lists = lists;
         self.n = n + 1;
         self

@@ -68,7 +68,7 @@ impl Sheet {
         self.counts
     }
 
-    // The lists in their order, batch b's from 24 (b - 1) on; 0 past the end of each.
+    // The lists, batch b's from 24 (b - 1) on; 0 past the end of each.
     pub fn lists(self) -> [u8; 4800]
         requires { ⌜ Sound self ⌝ }
         ensures { λ r. ⌜ r ≡ padded 4800 (rows (bookOf self .batches)) ⌝ }

@@ -8,7 +8,7 @@ use lib.ListN.{length, take, drop}
 use lib.Dec.{ltb}
 use Rattle.rules.specs.Fold.{pick, at, mem, firstTo}
 use Rattle.rules.specs.Refusal.{bufferShort}
-use Rattle.rules.specs.Sheet.{Book, Batch, size, batch, sound}
+use Rattle.rules.specs.Sheet.{Book, Batch, size, batch, isBatch, head, sound}
 use Rattle.rules.specs.Read.{read, accepted}
 use Rattle.rules.specs.Rewrite.{written, SameContents}
 use Rattle.rules.specs.Edit.{Edited, refused, edited, add, withdraw, requalify, move, start, edit}
@@ -158,9 +158,10 @@ pub record Reviews (k : Book) : Type 0 where
   pub few : review (instance k) (places k) .improving ≤ size k
   pub waits : batch k (review (instance k) (places k) .improving) .started ≡ false
 
--- Of a place not given, in an edit: it is the lowest qualified instrument. An edit that adds gives none, and one that requalifies gives none
--- where the place is not in the new list.
+-- Of lists, which ascend: the first listed is the lowest, and so is a place not given. An edit that adds gives none, and one that
+-- requalifies gives none where the place is not in the new list.
 pub record Lists (k : Book) : Type 0 where
+  pub first : (b : ℕ) → isBatch k b ≡ true → head (batch k b .list) ≡ lowest (k .m) (batch k b .list)
   pub added : (t : ℕ) (l : List ℕ) (j : Book) → edit k (add t l) ≡ edited j → batch j (size j) .place ≡ lowest (k .m) l
   pub requalified : (b : ℕ) (l : List ℕ) (j : Book) → edit k (requalify b l) ≡ edited j → mem (batch k b .place) l ≡ false
       → batch j b .place ≡ lowest (k .m) l

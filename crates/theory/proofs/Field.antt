@@ -233,7 +233,7 @@ blanks-blank (x ∷ s) e =
     (λ u. digits-blank (x ∷ s) 0 (rw (t, u) at e)))
 
 -- only six columns give anything but the fault
-pub six-columns : (r : List ℕ) (f : Field) → field r ≡ f → (fault ≡ f → ⊥) → (6 ≤ length r) × (blanks (take 6 r) ≡ f)
+six-columns : (r : List ℕ) (f : Field) → field r ≡ f → (fault ≡ f → ⊥) → (6 ≤ length r) × (blanks (take 6 r) ≡ f)
 unfolding field
 six-columns r f e n =
     byTest (ltb (length r) 6) (λ t. absurd (n (rw t at e))) (λ t. (ltb-false _ _ t, rw t at e))

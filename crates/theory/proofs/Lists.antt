@@ -9,7 +9,7 @@ use lib.ListN.{length, getD, length-append}
 use lib.Seq.{getD-set-same, ext-getD}
 use lib.Dec.{leb, ltb, eqb}
 use borrow.Author.Tests.{leb-true, eqb-true, eqb-false, not-true}
-use Rattle.rules.specs.Fold.{_or_, pick, mem, every}
+use Rattle.rules.specs.Fold.{pick, mem, every}
 use Rattle.rules.specs.Sheet.{Book, Batch, waiting, withPlace, withList, noBatchHere, size, batch, isBatch, head, maxBatches, distinct, goodMinutes, goodList, ascendingFrom, ascending, goodBatch, sound}
 use Rattle.rules.specs.Read.{accepted, placeOr, read}
 use Rattle.rules.specs.Render.{givenNumber, Described, batchWithinLimits, placed}
@@ -19,7 +19,7 @@ use Rattle.theory.proofs.Logic.{byTest, conflict, and-left, and-right, 
 use Rattle.theory.proofs.Member.{mem-none, mem-head, every-at}
 use Rattle.theory.proofs.View.{first-hit}
 use Rattle.theory.proofs.Format.{good-list-is, batch-within-is}
-use Rattle.theory.proofs.Sound.{good-is, sound-is, good-some, good-ranged, passes, waits, lists}
+use Rattle.theory.proofs.Sound.{good-is, sound-is, good-batch, good-some, good-ranged, passes, waits, lists}
 use Rattle.theory.proofs.Claims.{lowest}
 use Rattle.theory.proofs.Rewrite.{read-written}
 
@@ -98,6 +98,12 @@ first-lowest m (x ∷ l) g a =
     (λ i p q. byTest (mem i (x ∷ l)) (λ t. absurd (omega (arith, first-least 0 x l a (good-list-is m (x ∷ l) g .apart) i t, r .0))) (λ t. t))
     (ap (λ (i : ℕ). mem i (x ∷ l)) e ∙ mem-head x l)
     ∙ e)
+
+-- of every batch
+pub batch-lowest : (k : Book) → sound k ≡ true → (b : ℕ) → isBatch k b ≡ true → head (batch k b .list) ≡ lowest (k .m) (batch k b .list)
+batch-lowest k e b h =
+    let g = good-batch k b (sound-is k e) h in
+    first-lowest (k .m) (batch k b .list) (g .list) (g .order)
 
 -- a place that a file gives as 0 or blank
 pub open-lowest : (m : ℕ) (b : Described) → batchWithinLimits m b ≡ true → isOpen (b .place) ≡ true → placed b .place ≡ lowest m (b .list)

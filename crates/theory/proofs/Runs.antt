@@ -28,7 +28,7 @@ use Rattle.theory.proofs.Interleave.{interleaves}
 use Rattle.theory.proofs.Claims.{homes, renumbered, numberAfter, Lends, Bounds, Plans, Claims}
 use Rattle.theory.proofs.Records.{records-lead}
 use Rattle.theory.proofs.Rewrite.{read-written, most-written}
-use Rattle.theory.proofs.Lists.{added-lowest, requalified-lowest, same-bytes, bytes-same}
+use Rattle.theory.proofs.Lists.{batch-lowest, added-lowest, requalified-lowest, same-bytes, bytes-same}
 use Rattle.theory.proofs.Review.{review-settled, settled-review, settled-none, none-settled, review-first}
 use Rattle.theory.proofs.Heights.{permitted-partial}
 use Rattle.theory.proofs.Ending.{trial-lifts, trial-pushes}
@@ -224,7 +224,7 @@ sound-claims k e =
     } in
     record {
       sound = e;
-      lists = record { added = added-lowest k; requalified = requalified-lowest k };
+      lists = record { first = batch-lowest k e; added = added-lowest k; requalified = requalified-lowest k };
       files = record {
         same = read-written k e;
         equal = λ j f. same-bytes k j e f;

@@ -14,17 +14,17 @@ use Rattle.rules.specs.Journal.{calls, journal, sheetText, writeHost}
 use Rattle.theory.proofs.Lists.{contents-one, same-bytes, bytes-same}
 use Rattle.theory.proofs.Runs.{after-sound}
 use Rattle.theory.proofs.Sound.{read-sound}
+use Rattle.text.proofs.Answer.{into-long}
 use Rattle.sheet.specs.declared.Sheet.{Sheet}
 use Rattle.sheet.specs.Represent.{sheetOf, bookOf, Sound}
-use Rattle.written.proofs.Bounded.{always-fits}
 
 -- ---- sheets
 
--- and two sheets with the same contents are one
+-- two sheets with the same contents are one
 pub record Alike (s t : Sheet) : Type 0 where
+  pub one : SameContents (bookOf s) (bookOf t) → s ≡ t
   pub equal : SameContents (bookOf s) (bookOf t) → written (bookOf s) ≡ written (bookOf t)
   pub only : written (bookOf s) ≡ written (bookOf t) → SameContents (bookOf s) (bookOf t)
-  pub one : SameContents (bookOf s) (bookOf t) → s ≡ t
 
 pub sheets-alike : (s t : Sheet) → Sound s → Sound t → Alike s t
 sheets-alike s t v w = record {
@@ -43,15 +43,17 @@ pub record HostAlike (a b : Hosted) (j k : Book) : Type 0 where
   pub equal : SameContents j k → bytesOf a ≡ bytesOf b
   pub only : bytesOf a ≡ bytesOf b → SameContents j k
 
--- a sheet and a journal without a fault, and a buffer that is long enough for every sheet
+-- a sheet and a journal without a fault, and a buffer that is long enough
 pub record Written (s c buffer : List ℕ) (k : Book) (cs : List Call) : Type 0 where
   pub sheet : read s ≡ accepted k
   pub journal : journal c ≡ calls cs
-  pub room : 33958 ≤ length buffer
+  pub room : length (sheetText k cs) ≤ length buffer
 
 wrote : {s c buffer : List ℕ} {k : Book} {cs : List Call} → Written s c buffer k cs → bytesOf (writeHost s c buffer) ≡ sheetText k cs
+unfolding writeHost
 wrote {s} {c} {buffer} {k} {cs} w =
-    ap bytesOf (always-fits s c buffer k cs (w .sheet) (w .journal) (w .room))
+    let t = sheetText k cs in
+    rw (w .sheet, w .journal) (ap bytesOf (sym (into-long t buffer _ _ (w .room) refl refl)))
     ∙ take-at (sheetText k cs) (drop (length (sheetText k cs)) buffer) (length (sheetText k cs)) refl
 
 -- two such calls: the sheets that the journals leave are told apart by their bytes

@@ -46,10 +46,10 @@ judge-list-requires c κs = let s = start (c .before .before) in few-instruments
 enum-told-2 : tie.Need-enum-told-2
 enum-told-2 c = search needs
 
--- the list is one for a batch
 abbrev begun : tie.After-judge-list → tie.Start
 begun c = start (c .before .before .before)
 
+-- the list is one for a batch
 fit : (c : tie.After-enum-told2) → let s = begun (c .before .before) in Fit (s .args .self .m) (s .args .list .now)
 fit c = is-fit _ _ (ap (λ (l : ListRow). l .refusal) (c .before .before .judge-list .ensures)) (c .enum-told2 .given .1)
 
@@ -60,7 +60,6 @@ returns-2 c =
     edit-answered (requalify-unfit (s .args .self) (s .pre) (s .args .batch) (s .args .list .now) (free (j .before))
     (ap (λ (l : ListRow). l .refusal) (j .judge-list .ensures)) (some-refusal _ (c .match2 .keys2)))
 
--- the batch's number, and how long the list is
 abbrev told : tie.After-row → tie.After-judge-list
 told c = c .before .before .before
 
