@@ -1,6 +1,6 @@
 #!/usr/bin/env bash
 # More wrong answers, which the prover must refuse as it does those in crates/NAME/must-fail: tests/edits/NAME/*.edit. They are not
-# part of the test command, since each proves its crate again and takes a minute or more.
+# part of the test command, since each proves its crate again, which may take half a minute or more.
 set -euo pipefail
 cd "$(dirname "$0")/.."
 work=$(mktemp -d)

@@ -103,8 +103,8 @@ impl Line {
     }
 }
 
-// Why a batch line may not end at at, after a list that has its instruments at its front: they do not ascend, or there is no LF; Nothing
-// where it may.
+// Why a batch line may not end at at, where the first count entries of list are its instruments: they do not ascend, or there is no LF;
+// Nothing where it may.
 fn end_refusal(s: &[u8], at: usize, list: &[u8], count: usize) -> Refusal
     requires { ⌜ (at ≤ length (now s)) × (count ≤ length (now list)) ⌝ }
     ensures { λ r. ⌜ r ≡ badEnd (ascending (take count (now (list .entry)))) (endsLine (drop at (now (s .entry)))) ⌝ }

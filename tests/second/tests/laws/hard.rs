@@ -13,9 +13,9 @@ fn steps(trial: &Trial) -> u32 {
 #[test]
 fn many_steps_within_the_bounds() {
     // With the least number of steps of the longest trial, and of all.
-    let plain = (0..24).map(|seed| (seed, gen::hard(seed), [200_000, 600_000]));
-    let started = (24..28).map(|seed| (seed, gen::hard_started(seed), [200_000, 600_000]));
-    let calibrated = (0..8).map(|seed| (seed, gen::hard_calibrated(seed), [200_000, 250_000]));
+    let plain = (0..10).map(|seed| (seed, gen::hard(seed), [200_000, 600_000]));
+    let started = (24..26).map(|seed| (seed, gen::hard_started(seed), [200_000, 600_000]));
+    let calibrated = (0..4).map(|seed| (seed, gen::hard_calibrated(seed), [200_000, 250_000]));
     for (seed, sheet, least) in plain.chain(started).chain(calibrated) {
         assert_eq!((sheet.instruments(), sheet.batches().len()), (24, 200));
         let tried = halving(&sheet);
@@ -66,7 +66,7 @@ fn a_long_trial_step_by_step() {
 /// Batches that may run elsewhere but have started are as those that may not.
 #[test]
 fn started_for_confined() {
-    for seed in 0..4 {
+    for seed in 0..2 {
         let (mut sheet, mut other) = (gen::hard(seed), gen::hard_started(seed));
         assert_eq!(halving(&sheet), halving(&other));
         assert_eq!(plan(&mut sheet), plan(&mut other));
