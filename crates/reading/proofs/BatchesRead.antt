@@ -5,7 +5,7 @@ use mathlib.Core.Bool.{true}
 use mathlib.Core.List.{List, [], _∷_, _++_}
 use native.Mathlib.Omega.{arith}
 use borrow.Author.Tests.{le-leb}
-use lib.ListN.{length, drop, drop-of-length-le, length-append}
+use lib.ListN.{length, drop, replicate, drop-of-length-le, length-append}
 use lib.Seq.{drop-cons}
 use Rattle.rules.specs.Fold.{every}
 use Rattle.rules.specs.Refusal.{malformed}
@@ -16,10 +16,11 @@ use Rattle.theory.proofs.Member.{every-append, every-one}
 use Rattle.sheet.specs.declared.Refusal.the-variants.{Nothing, Malformed}
 use Rattle.sheet.specs.declared.Sheet.{Sheet}
 use Rattle.reading.specs.declared.Line.{Line}
-use Rattle.sheet.specs.Represent.{padded, sheetOf, appended, empty}
+use Rattle.sheet.specs.Represent.{padded, rows, sheetOf, appended, held}
 use Rattle.sheet.specs.Answers.{readAs, unread}
 use Rattle.reading.specs.Lines.{lineAs}
-use Rattle.sheet.proofs.Represent.{narrow, append-law}
+use Rattle.sheet.proofs.Padded.{length-padded}
+use Rattle.sheet.proofs.Represent.{narrow, length-rows, append-law}
 use Rattle.reading.proofs.PartsRead.{LineGiven, line-refused}
 
 -- the book of the calibrations l and the batches bs
@@ -46,21 +47,29 @@ module _ (s : List ℕ) (at m n : ℕ) (calibrations : List ℕ) where
     pub rest : onward i batches next ≡ whole
 
   -- no line is read yet
-  pub none-yet : (sheet : Sheet) → at ≤ length s → sheet ≡ empty m (padded 24 calibrations) → BatchesSofar sheet at 0
+  pub none-yet : (row : List ℕ) → at ≤ length s → padded 24 calibrations ≡ row →
+      BatchesSofar (held m 0 row (replicate 200 0) (replicate 200 0) (replicate 200 0) (replicate 200 0) (replicate 4800 0)) at 0
   unfolding every sheetOf
-  none-yet sheet h e =
+  none-yet row h e =
       let c : n - 0 ≡ n = omega arith in
       record {
         batches = [];
         count = refl;
         fit = refl;
-        same = e;
+        same = rw e;
         room = h;
         few = omega arith;
         rest = ap (λ (k : ℕ). batchLines m calibrations k 3 [] (drop at s)) c;
       }
 
   module _ (sheet : Sheet) (next i : ℕ) (f : BatchesSofar sheet next i) where
+    pub lists-long : n ≤ 200 → length (sheet .lists) ≡ 4800
+    unfolding sheetOf
+    lists-long h =
+        let r = rows (f .batches) in
+        ap (λ (z : Sheet). length (z .lists)) (f .same)
+        ∙ length-padded 4800 r (omega (arith, length-rows (f .batches) (f .fit), f .count, f .few))
+
     step : (x : Line) (h : next ≤ length s) (g : LineGiven s next h m x) → i < n →
         onward (i + 1) (f .batches ++ (g .batch ∷ [])) (x .next) ≡ whole
     unfolding batchLines
@@ -70,11 +79,6 @@ module _ (s : List ℕ) (at m n : ℕ) (calibrations : List ℕ) where
         let b : onward i (f .batches) next
         ≡ batchLines m calibrations (n - (i + 1)) (suc (i + 3)) (f .batches ++ (g .batch ∷ [])) (drop (x .next) s) = rw (e, g .part) in
         ap (λ (k : ℕ). batchLines m calibrations (n - (i + 1)) k (f .batches ++ (g .batch ∷ [])) (drop (x .next) s)) j ∙ sym b ∙ f .rest
-
-    -- a line more has room
-    pub size-is : sheet .n ≡ i
-    unfolding sheetOf
-    size-is = ap (λ (z : Sheet). z .n) (f .same) ∙ f .count
 
     -- one line more
     pub one-more : (x : Line) (h : next ≤ length s) → LineGiven s next h m x → i < n → n ≤ 200

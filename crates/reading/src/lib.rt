@@ -7,7 +7,7 @@ ghost use lib.ListN.{length, take, drop};
 ghost use Rattle.rules.specs.Sheet.{ascending};
 ghost use Rattle.rules.specs.Read.{calibrationLine, batchLine, batchLines, linesAfter, read as reading};
 ghost use Rattle.fields.specs.Columns.{endsLine};
-ghost use Rattle.sheet.specs.Represent.{padded, empty};
+ghost use Rattle.sheet.specs.Represent.{padded};
 ghost use Rattle.reading.specs.Lines.{noCalibrations, calibratedAs, noLine, lineAs, badEnd, lineList};
 ghost use Rattle.sheet.specs.Answers.{readAs, ReadAnswered};
 use fields::Field;
@@ -18,6 +18,7 @@ use sheet::Reading;
 use sheet::Refusal;
 use sheet::Sheet;
 use sheet::ascends;
+use sheet::enter_part;
 use sheet::listed;
 use sheet::place_or;
 use sheet::refused_at;
@@ -205,12 +206,16 @@ fn batch_line(s: &[u8], at: usize, line: usize, m: usize) -> Line
     line_list(s, fifth, line, m, t as u16, p, v as u8, c as usize)
 }
 
-// The sheet, of m instruments and without a batch yet, with those of the n lines from at on, the first of which is line 3; nothing may
-// follow.
-fn batch_lines(s: &[u8], at: usize, m: usize, n: usize, mut sheet: Sheet) -> Reading
-    requires { ⌜ (at ≤ length (now s)) × (m ≤ 24) × (n ≤ 200) × (sheet ≡ empty m (padded 24 (take m (sheet .calibrations)))) ⌝ }
-    ensures { λ r. ⌜ r ≡ readAs (batchLines m (take m (sheet .calibrations)) n 3 [] (drop at (now (s .entry)))) ⌝ }
+// The n batch lines from at on, the first of which is line 3; nothing may follow. The calibrations stand in the sheet that is read.
+fn batch_lines(s: &[u8], at: usize, m: usize, n: usize, calibrations: [u8; 24]) -> Reading
+    requires { ⌜ (at ≤ length (now s)) × (m ≤ 24) × (n ≤ 200) × (padded 24 (take m calibrations) ≡ calibrations) ⌝ }
+    ensures { λ r. ⌜ r ≡ readAs (batchLines m (take m calibrations) n 3 [] (drop at (now (s .entry)))) ⌝ }
 {
+    let mut minutes = [0u16; 200];
+    let mut places = [0u8; 200];
+    let mut started = [0u8; 200];
+    let mut counts = [0u8; 200];
+    let mut lists = [0u8; 4800];
     let mut next = at;
     let mut i = 0;
     while i < n {
@@ -219,14 +224,19 @@ fn batch_lines(s: &[u8], at: usize, m: usize, n: usize, mut sheet: Sheet) -> Rea
         let Refusal::Nothing = e else {
             return refused_at(e, b.line);
         };
+        minutes[i] = b.minutes;
+        places[i] = b.place;
+        started[i] = b.started;
+        counts[i] = b.count;
         let row = b.list;
-        sheet = sheet.appended(b.minutes, b.place, b.started, b.count, row);
+        enter_part(&mut lists, i * Sheet::INSTRUMENTS, &row, Sheet::INSTRUMENTS);
         next = b.next;
         i += 1;
     }
     if next < s.len() {
         return refused_at(Refusal::Malformed, i + 3);
     }
+    let sheet = Sheet::of_arrays(m, n, calibrations, minutes, places, started, counts, lists);
     Reading {
         refusal: Refusal::Nothing,
         line: 0,
@@ -245,8 +255,7 @@ fn lines_after(s: &[u8], at: usize, m: usize, n: usize) -> Reading
         return refused_at(e, c.line);
     };
     let calibrations = c.calibrations;
-    let sheet = Sheet::empty(m, calibrations);
-    batch_lines(s, c.next, m, n, sheet)
+    batch_lines(s, c.next, m, n, calibrations)
 }
 
 // The sheet that s holds, or the refusal of the first fault and its line. Line 1 has m and n.

@@ -70,18 +70,23 @@ appended s t p v c row = record {
   lists = paste (s .lists) (s .n * 24) row 24;
 }
 
--- the arrays of a sheet of m instruments with these calibrations, and no batch
-abbrev pub empty : ℕ → List ℕ → Sheet
-empty m calibrations = record {
+-- the sheet that these arrays make
+abbrev pub held : ℕ → ℕ → List ℕ → List ℕ → List ℕ → List ℕ → List ℕ → List ℕ → Sheet
+held m n calibrations minutes places started counts lists = record {
   m = m;
-  n = 0;
+  n = n;
   calibrations = calibrations;
-  minutes = replicate 200 0;
-  places = replicate 200 0;
-  started = replicate 200 0;
-  counts = replicate 200 0;
-  lists = replicate 4800 0;
+  minutes = minutes;
+  places = places;
+  started = started;
+  counts = counts;
+  lists = lists;
 }
+
+-- that of m instruments with these calibrations, and no batch
+abbrev pub empty : ℕ → List ℕ → Sheet
+empty m calibrations =
+    held m 0 calibrations (replicate 200 0) (replicate 200 0) (replicate 200 0) (replicate 200 0) (replicate 4800 0)
 
 -- the value in the sheet's place where there is none
 abbrev pub blank : Sheet

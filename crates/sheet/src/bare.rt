@@ -41,7 +41,9 @@ impl Sheet {
             return refused_at(Refusal::BadCalibration, 0);
         }
         let row = row_of(calibrations);
-        let sheet = Sheet::empty(size, row);
+        let mut sheet = Sheet::new();
+        sheet.m = size;
+        sheet.calibrations = row;
         Reading {
             refusal: Refusal::Nothing,
             line: 0,

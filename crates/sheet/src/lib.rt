@@ -8,7 +8,7 @@ ghost use lib.Seq.{paste};
 ghost use Rattle.rules.specs.Fold.{_and_, mem, pick};
 ghost use Rattle.rules.specs.Sheet.{ascending};
 ghost use Rattle.rules.specs.Edit.{kept};
-ghost use Rattle.sheet.specs.Represent.{padded, appended, empty, blank};
+ghost use Rattle.sheet.specs.Represent.{padded, appended, held, blank};
 ghost use Rattle.sheet.specs.Answers.{numberOf, unread};
 
 pub mod bare;
@@ -106,25 +106,33 @@ impl Sheet {
         }
     }
 
-    // A sheet of m instruments with these calibrations, and no batch yet.
-    pub fn empty(m: usize, calibrations: [u8; 24]) -> Self
-        ensures { λ r. ⌜ r ≡ empty m calibrations ⌝ }
+    // The sheet that these arrays make.
+    pub fn of_arrays(
+        m: usize,
+        n: usize,
+        calibrations: [u8; 24],
+        minutes: [u16; 200],
+        places: [u8; 200],
+        started: [u8; 200],
+        counts: [u8; 200],
+        lists: [u8; 4800],
+    ) -> Self
+        ensures { λ r. ⌜ r ≡ held m n calibrations minutes places started counts lists ⌝ }
     {
-        let mut sheet = Sheet::new();
-        sheet.m = m;
-        sheet.calibrations = calibrations;
-        sheet
+        Self {
+            m,
+            n,
+            calibrations,
+            minutes,
+            places,
+            started,
+            counts,
+            lists,
+        }
     }
 
     // One batch more, the last; its list stands at the front of row.
-    pub fn appended(
-        mut self,
-        minutes: u16,
-        place: u8,
-        started: u8,
-        count: u8,
-        row: [u8; 24],
-    ) -> Sheet
+    fn appended(mut self, minutes: u16, place: u8, started: u8, count: u8, row: [u8; 24]) -> Sheet
         requires { ⌜ self .n < 200 ⌝ }
         ensures { λ r. ⌜ r ≡ appended self minutes place started count row ⌝ }
     {
@@ -154,7 +162,7 @@ pub fn refused_at(refusal: Refusal, line: usize) -> Reading
 }
 
 // The count entries from at on become the first of part.
-fn enter_part(a: &mut [u8], at: usize, part: &[u8], count: usize)
+pub fn enter_part(a: &mut [u8], at: usize, part: &[u8], count: usize)
     requires { ⌜ at + count ≤ length (now a) ⌝ ∗ ⌜ count ≤ length (now part) ⌝ }
     ensures { λ r. ⌜ now (a .exit) ≡ paste (now (a .entry)) at (now (part .entry)) count ⌝ }
 {

@@ -1,55 +1,47 @@
--- The invariant: i lines are read, and their batches are in the sheet.
+-- The invariant: i lines are read, and their batches are in the arrays.
 use Prim.Native.Nat.{ℕ, _+_, _-_, _<_}
-use mathlib.Core.Path.{_∙_}
-use mathlib.Core.List.{List}
+use mathlib.Core.Path.{_≡_, sym, ap, _∙_}
 use native.Mathlib.Omega.{arith}
 use borrow.Author.Needs.{needs}
-use lib.ListN.{take}
+use mathlib.Core.List.{List}
+use lib.ListN.{length, take}
+use Rattle.sheet.specs.declared.Refusal.the-variants.{Nothing}
+use Rattle.sheet.specs.Represent.{held}
 use Rattle.sheet.proofs.Refusals.{some-refusal}
 use Rattle.reading.proofs.PartsRead.{LineGiven, line-given}
-use Rattle.reading.proofs.BatchesRead.{BatchesSofar, none-yet, size-is, one-more, then-refused, left-over, all-read}
+use Rattle.reading.proofs.BatchesRead.{BatchesSofar, none-yet, lists-long, one-more, then-refused, left-over, all-read}
 use Rattle.reading.proofs.batch_lines.Statement.{statement}
 use Rattle.reading.proofs.batch_lines.Tie as tie
 
 abbrev Inv-loop : tie.InvT-loop
-Inv-loop s at m n sheet₀ next₀ i₀ sheet next i = BatchesSofar s at m n (take m (sheet₀ .calibrations)) sheet next i
+Inv-loop s at m n calibrations minutes₀ places₀ started₀ counts₀ lists₀ next₀ i₀ minutes places started counts lists next i =
+    BatchesSofar s at m n (take m calibrations) (held m i calibrations minutes places started counts lists) next i
 
 abbrev μ-loop : tie.MeasureT-loop
-μ-loop s at m n sheet₀ next₀ i₀ sheet next i = n - i
+μ-loop s at m n calibrations minutes₀ places₀ started₀ counts₀ lists₀ next₀ i₀ minutes places started counts lists next i = n - i
 
-abbrev start : tie.At-loop Inv-loop μ-loop → tie.Start Inv-loop μ-loop
-start t = t .before .before
-
-abbrev text : tie.At-loop Inv-loop μ-loop → List ℕ
-text t = start t .args .s .now
+abbrev text : tie.Start Inv-loop μ-loop → List ℕ
+text c = c .args .s .now
 
 -- the line was read
-abbrev turn : tie.After-enum-told Inv-loop μ-loop → tie.At-loop Inv-loop μ-loop
-turn c = c .before .before .before .before
-
-abbrev more : (c : tie.After-enum-told Inv-loop μ-loop) → turn c .loop .i < start (turn c) .args .n
-more c = c .before .before .before .loop-test .taken
-
 given : (c : tie.After-enum-told Inv-loop μ-loop) →
-    let t = turn c in
-    LineGiven (text t) (t .loop .next) (t .loop .inv .room) (start t .args .m) (c .before .before .batch-line .result)
+    LineGiven (text (c .before .before .before .before .before .before)) (c .before .before .before .before .loop .next) (c .before .before .before .before .loop .inv .room) (c .before .before .before .before .before .before .args .m) (c .before .before .batch-line .result)
 given c =
-    let t = turn c in
-    line-given (text t) (t .loop .next) (t .loop .inv .room) (start t .args .m) (t .loop .i + 3) _ (start t .pre .1)
+    line-given (text (c .before .before .before .before .before .before)) (c .before .before .before .before .loop .next) (c .before .before .before .before .loop .inv .room) (c .before .before .before .before .before .before .args .m) (c .before .before .before .before .loop .i + 3) _ (c .before .before .before .before .before .before .pre .1)
     (c .before .before .batch-line .ensures) (c .enum-told .given .1)
 
 -- a batch more has room
-room : (c : tie.After-enum-told Inv-loop μ-loop) → turn c .loop .i < 200
-room c = omega (arith, more c, start (turn c) .pre .2)
+room : (c : tie.After-enum-told Inv-loop μ-loop) → c .before .before .before .before .loop .i < 200
+room c = omega (arith, c .before .before .before .loop-test .taken, c .before .before .before .before .before .before .pre .2)
 
 loop-holds : tie.Need-loop-holds Inv-loop μ-loop
-loop-holds c = let b = c .before in none-yet _ _ _ _ _ _ (b .pre .0) (b .pre .3)
+loop-holds c = none-yet _ _ _ _ _ _ (c .before .pre .0) (c .before .pre .3)
 
 add-batch-line : tie.Need-add-batch-line Inv-loop μ-loop
-add-batch-line c = let t = c .before in omega (arith, t .loop .inv .few, start t .pre)
+add-batch-line c = omega (arith, c .before .loop .inv .few, c .before .before .before .pre)
 
 batch-line-requires : tie.Need-batch-line-requires Inv-loop μ-loop
-batch-line-requires c κs = let t = c .before in (t .loop .inv .room, start t .pre .1)
+batch-line-requires c κs = (c .before .loop .inv .room, c .before .before .before .pre .1)
 
 enum-told : tie.Need-enum-told Inv-loop μ-loop
 enum-told c = search needs
@@ -59,51 +51,77 @@ refused-at-requires c κs = search needs
 
 returns : tie.Need-returns Inv-loop μ-loop
 returns c =
-    let l = c .before .before in
-    let t = l .before .before in
-    let b = start t in
+    let b : tie.Start Inv-loop μ-loop = c .before .before .before .before .before .before in
     c .refused-at .ensures
-    ∙ then-refused (text t) (b .args .at) (b .args .m) (b .args .n) _ _ _ _ (t .loop .inv) _ (l .batch-line .ensures)
-    (some-refusal _ (c .before .match .keys2)) (l .before .loop-test .taken)
+    ∙ then-refused (text b) (b .args .at) (b .args .m) (b .args .n) _ _ _ _ (c .before .before .before .before .loop .inv) _ (c .before .before .batch-line .ensures)
+    (some-refusal _ (c .before .match .keys2)) (c .before .before .before .loop-test .taken)
 
-appended-requires : tie.Need-appended-requires Inv-loop μ-loop
-appended-requires c κs =
-    let t = turn (c .before) in
-    let b = start t in
-    omega (arith, room (c .before), size-is (text t) (b .args .at) (b .args .m) (b .args .n) _ _ _ _ (t .loop .inv))
+mul-minutes : tie.Need-mul-minutes Inv-loop μ-loop
+mul-minutes c = omega (arith, room c)
+
+array-write-minutes : tie.Need-array-write-minutes Inv-loop μ-loop
+array-write-minutes c = room c
+
+array-write-places : tie.Need-array-write-places Inv-loop μ-loop
+array-write-places c = room c
+
+array-write-started : tie.Need-array-write-started Inv-loop μ-loop
+array-write-started c = room c
+
+array-write-counts : tie.Need-array-write-counts Inv-loop μ-loop
+array-write-counts c = room c
+
+slice-aggregate-enter-part : tie.Need-slice-aggregate-enter-part Inv-loop μ-loop
+slice-aggregate-enter-part c = sym (lists-long _ _ _ _ _ _ _ _ (c .before .before .before .before .before .before .loop .inv) (c .before .before .before .before .before .before .before .before .pre .2))
+
+mul-enter-part : tie.Need-mul-enter-part Inv-loop μ-loop
+mul-enter-part c = omega (arith, room (c .before .before))
+
+slice-aggregate-enter-part-2 : tie.Need-slice-aggregate-enter-part-2 Inv-loop μ-loop
+slice-aggregate-enter-part-2 c = search needs
+
+enter-part-requires : tie.Need-enter-part-requires Inv-loop μ-loop
+enter-part-requires c κs =
+    let l : length (c .before .before .before .before .before .before .before .loop .lists) ≡ 4800 = lists-long _ _ _ _ _ _ _ _ (c .before .before .before .before .before .before .before .loop .inv) (c .before .before .before .before .before .before .before .before .before .pre .2) in
+    let w : length (c .before .before .before .before .before .batch-line .result .list) ≡ 24 = search needs in
+    (omega (arith, room (c .before .before .before)), omega arith)
 
 add-i : tie.Need-add-i Inv-loop μ-loop
-add-i c = omega (arith, room (c .before .before))
+add-i c = omega (arith, room (c .before .before .before .before .before))
 
 loop-less : tie.Need-loop-less Inv-loop μ-loop
-loop-less c = omega (arith, more (c .before .before))
+loop-less c = omega (arith, c .before .before .before .before .before .before .before .before .loop-test .taken)
 
 loop-again : tie.Need-loop-again Inv-loop μ-loop
 loop-again c =
-    let e = c .before .before in
-    let t = turn e in
-    rw (c .appended .ensures) (one-more _ _ _ _ _ _ _ _ (t .loop .inv) _ (t .loop .inv .room) (given e) (more e) (start t .pre .2))
+    rw (c .before .enter-part .ensures)
+    (one-more _ _ _ _ _ _ _ _ (c .before .before .before .before .before .before .before .before .before .loop .inv) _ (c .before .before .before .before .before .before .before .before .before .loop .inv .room) (given (c .before .before .before .before .before)) (c .before .before .before .before .before .before .before .before .loop-test .taken) (c .before .before .before .before .before .before .before .before .before .before .before .pre .2))
 
 add-refused-at : tie.Need-add-refused-at Inv-loop μ-loop
-add-refused-at c = let t = c .before .before in omega (arith, t .loop .inv .few, start t .pre)
+add-refused-at c = omega (arith, c .before .before .loop .inv .few, c .before .before .before .before .pre)
 
 refused-at-requires-2 : tie.Need-refused-at-requires-2 Inv-loop μ-loop
 refused-at-requires-2 c κs = search needs
 
 returns-2 : tie.Need-returns-2 Inv-loop μ-loop
 returns-2 c =
-    let l = c .before .before in
-    let t = l .before in
-    let b = start t in
+    let b : tie.Start Inv-loop μ-loop = c .before .before .before .before .before in
     c .refused-at2 .ensures
-    ∙ left-over (text t) (b .args .at) (b .args .m) (b .args .n) _ _ _ _ (t .loop .inv) (l .loop-test .left) (c .before .if1 .taken)
+    ∙ left-over (text b) (b .args .at) (b .args .m) (b .args .n) _ _ _ _ (c .before .before .before .loop .inv) (c .before .before .loop-test .left) (c .before .if1 .taken)
+
+of-arrays-requires : tie.Need-of-arrays-requires Inv-loop μ-loop
+of-arrays-requires c κs = search needs
 
 returns-3 : tie.Need-returns-3 Inv-loop μ-loop
 returns-3 c =
-    let l = c .before in
-    let t = l .before in
-    let b = start t in
-    all-read (text t) (b .args .at) (b .args .m) (b .args .n) _ _ _ _ (t .loop .inv) (l .loop-test .left) (c .if1 .left)
+    let d = c .before .before in
+    let t = d .before in
+    let b : tie.Start Inv-loop μ-loop = t .before .before in
+    let l = t .loop in
+    let e : b .args .n ≡ l .i = omega (arith, l .inv .few, d .loop-test .left) in
+    rw (c .of-arrays .ensures)
+    (ap (λ (k : ℕ). record { refusal = Nothing; line = 0; sheet = held (b .args .m) k (b .args .calibrations) (l .minutes) (l .places) (l .started) (l .counts) (l .lists) }) e
+    ∙ all-read (text b) (b .args .at) (b .args .m) (b .args .n) _ _ _ _ (l .inv) (d .loop-test .left) (c .before .if1 .left))
 
 pub batch-lines-spec : {M : Type 1} → statement M
 batch-lines-spec =
@@ -117,11 +135,20 @@ batch-lines-spec =
     enum-told
     refused-at-requires
     returns
-    appended-requires
+    mul-minutes
+    array-write-minutes
+    array-write-places
+    array-write-started
+    array-write-counts
+    slice-aggregate-enter-part
+    mul-enter-part
+    slice-aggregate-enter-part-2
+    enter-part-requires
     add-i
     loop-less
     loop-again
     add-refused-at
     refused-at-requires-2
     returns-2
+    of-arrays-requires
     returns-3)

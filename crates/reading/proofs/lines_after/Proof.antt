@@ -1,10 +1,9 @@
 -- Line 2, and the batch lines where it is not refused.
 use Prim.Native.Nat.{ℕ}
-use mathlib.Core.Path.{_≡_, sym, ap, _∙_}
+use mathlib.Core.Path.{_∙_}
 use mathlib.Core.List.{List}
 use borrow.Author.Needs.{needs}
 use Rattle.rules.specs.Read.{linesAfter}
-use Rattle.sheet.specs.Represent.{empty}
 use Rattle.sheet.proofs.Refusals.{some-refusal}
 use Rattle.reading.proofs.CalibrationsRead.{CalibrationsGiven, calibrations-given, calibrations-refused}
 use Rattle.reading.proofs.lines_after.Statement.{statement}
@@ -40,28 +39,14 @@ returns c =
     c .refused-at .ensures
     ∙ calibrations-refused (text b) (b .args .at) (b .args .m) _ (l .calibration-line .ensures) (b .args .n) (some-refusal _ (c .before .match .keys2))
 
-empty-requires : tie.Need-empty-requires
-empty-requires c κs = search needs
-
--- the sheet that the batches are entered in
-entered : (c : tie.After-empty) →
-    let l = c .before .before .before .before in
-    c .empty .result ≡ empty (l .before .before .args .m) (l .calibration-line .result .calibrations)
-entered c = c .empty .ensures
-
 batch-lines-requires : tie.Need-batch-lines-requires
 batch-lines-requires c κs =
-    let g = given (c .before .before) in
-    let b = c .before .before .before .before .before .before in (
-      g .room,
-      b .pre .1,
-      b .pre .2,
-      rw (entered c) (ap (empty (b .args .m)) (sym (g .row))),
-    )
+    let b = c .before .before .before .before .before in
+    (given (c .before) .room, b .pre .1, b .pre .2, given (c .before) .row)
 
 returns-2 : tie.Need-returns-2
 unfolding linesAfter
-returns-2 c = rw (given (c .before .before .before) .part) (rw (entered (c .before)) at (c .batch-lines .ensures))
+returns-2 c = rw (given (c .before .before) .part) (c .batch-lines .ensures)
 
 pub lines-after-spec : {M : Type 1} → statement M
 lines-after-spec =
@@ -71,6 +56,5 @@ lines-after-spec =
     enum-told
     refused-at-requires
     returns
-    empty-requires
     batch-lines-requires
     returns-2)

@@ -46,14 +46,14 @@ row-of-requires c κs =
     let s = e .before .before .before in
     calibrations-fit (s .args .m) (s .args .calibrations .now) (in-range (s .args .m) 24 (instruments e) .1) (calibrations c)
 
-empty-requires : tie.Need-empty-requires
-empty-requires c κs = search needs
+new-requires : tie.Need-new-requires
+new-requires c κs = search needs
 
 returns-3 : tie.Need-returns-3
 returns-3 c =
     let g = c .before .before in
     let s = g .before .before .before .before .before in
-    rw (c .empty .ensures, c .before .row-of .ensures)
+    rw (c .new .ensures, c .before .row-of .ensures)
     (sym (bare-is (s .args .m) (s .args .calibrations .now) (instruments (g .before .before)) (calibrations g)))
 
 pub bare-spec : {M : Type 1} → statement M
@@ -67,5 +67,5 @@ bare-spec =
     refused-at-requires-2
     returns-2
     row-of-requires
-    empty-requires
+    new-requires
     returns-3)
