@@ -140,8 +140,8 @@ typedef struct bankplan_settled {
  * Planning is to balance, and to settle straight after: the finish and the settling moves are those of settle, the rest of lines 1 and 2
  * that of balance.
  *
- * The first fault in the sheet decides which of 1 to 5, 10 or 13 is answered; 13 is judged when the whole list has passed 4, before the end
- * of its line. 9 comes only for a sheet without a fault. A sheet without line 2, as it was before there were calibrations, is refused, and so
+ * The first fault in the sheet decides which of 1 to 5, 10 or 13 is answered; 13 comes after 4 for any of the list's instruments, and before
+ * the end of its line. 9 comes only for a sheet without a fault. A sheet without line 2, as it was before there were calibrations, is refused, and so
  * is one whose batches have no marks, or lists in another order.
  */
 bankplan_answer bankplan_plan(const uint8_t *sheet, size_t sheet_length, uint8_t *listing, size_t listing_length);
@@ -194,7 +194,7 @@ bankplan_answer bankplan_run(const uint8_t *sheet, size_t sheet_length, const ui
  * The written sheet is one that can be read, and reading it gives the very sheet that the calls left, so the next journal may start
  * from it. Every place is the true one, never 0 or blank, and lists ascend, those of started batches too; line 2 is that of the sheet that
  * was read. A sheet written back has as many bytes as the one that was read, and differs from it at most in places that were 0 or blank. Two
- * written sheets have equal bytes if they have the same contents, and only then.
+ * sheets that say the same are written as the same bytes, and others are not.
  *
  * Refusals and their order are those of bankplan_run. A call of the journal that is refused leaves the sheet as it was, and the run goes
  * on; only bankplan_run's answers tell which one it was.

@@ -176,7 +176,7 @@ contents-one j k p q s =
     ap₂ (λ (m : ℕ) (l : List ℕ). record { m = m; calibrations = l; batches = j .batches }) (s .instruments) (s .calibrations)
     ∙ ap (λ (bs : List Batch). record { m = k .m; calibrations = k .calibrations; batches = bs }) b
 
--- so two written sheets have equal bytes if their contents are equal, and only then
+-- so the files of two sheets are the same text exactly where the sheets say the same
 pub same-bytes : (j k : Book) → sound j ≡ true → sound k ≡ true → SameContents j k → written j ≡ written k
 same-bytes j k p q s = ap written (contents-one j k p q s)
 

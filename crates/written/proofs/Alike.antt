@@ -1,5 +1,5 @@
--- Two written sheets have equal bytes if their contents are equal, and only then (document 02, C-20): of sheets, and of what the exported
--- call writes.
+-- Files tell sheets apart (document 02, C-20): two are the same text exactly where their sheets say the same. Of sheets, and of what the
+-- exported call writes.
 use Prim.Native.Nat.{ℕ, _≤_}
 use mathlib.Core.Path.{_≡_, refl, sym, ap, _∙_}
 use mathlib.Core.List.{List}
