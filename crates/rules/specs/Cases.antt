@@ -1,38 +1,33 @@
--- Document 01, "Cases": P1 to P10 in one table, with one theorem over it. The rows from 11 on are more of document 01's cases
+-- Document 01, "Cases": P1 to P10 in one table, with one theorem over it (proofs/Cases). The rows from 11 on are more of document 01's cases
 -- and ours: each tells a wrong rule from the right one. Rows 20 to 26 are C-11 to C-17 of
 -- document 02, row 27 is C-19, and row 28 is C-20.
-use Rattle.std.specs.Prelude.{ℕ, ◌≡◌, refl, Bool, true, false, List, [], ◌∷◌, map, ◌++◌, length, replicate}
+use Rattle.std.specs.Prelude.{ℕ, Bool, true, false, List, [], ◌∷◌, map, ◌++◌, length, replicate}
 use Prim.Native.String.{String}
-use Rattle.rules.specs.Fold.{◌and◌, ◌or◌, mem, every, sum_to, most, max_to, or_else, first_to, any_to, all_to, lesser, least_to, greater, greatest_to, those_to, list_to}
 use Rattle.rules.specs.Refusal.{malformed, bad_size, bad_length, bad_list, bad_place, bad_calibration, bad_order, no_batch, sheet_full, has_started, level_above, buffer_short}
-use Rattle.rules.specs.Sheet.{Book, Batch, waiting, begun, is_batch, good_instruments, good_minutes, good_calibration, good_calibrations, is_instrument, distinct, good_list, ascending_from, ascending, good_batch, sound}
-use Rattle.rules.specs.Field.{Field, value, blank, fault, digits, lone_zero, blanks, field}
-use Rattle.rules.specs.Read.{Reading, accepted, refused_at, number_at, place_at, end_of_line, head_line, calibrations_at, calibration_line, mark_at, instruments_at, good_place, batch_line, batch_lines, lines_after, read}
-use Rattle.rules.specs.Render.{columns, fields, mark, Given, numbered, left_blank, Described, Description, render_batches, render, batch_within_limits, within_limits}
-use Rattle.rules.specs.Rewrite.{written, unmarked, open_in_batches, open_columns, alike}
-use Rattle.rules.specs.Edit.{add, withdraw, requalify, move, start, kept, edit}
-use Rattle.rules.specs.Instance.{Assignment, calibrations_to, busy, instance}
-use Rattle.rules.specs.Load.{load, makespan, longest, total, permitted, elsewhere, improves_at, improves, review}
-use Rattle.rules.specs.Settle.{mover, target, moved, squares, settle_by, settle}
-use Rattle.rules.specs.Trial.{at_level, underloaded, overloaded, unplaced, machine_arc, job_arc, lift_over, push_or, deed, job_deed, machine_deed, some_underloaded, act_machine, act_job, act, steps_by, lift_bound, push_bound, ended_by}
-use Rattle.rules.specs.Group.{overflows, reach, reach_by, closure, group, passed, failed, trial}
-use Rattle.rules.specs.Balance.{search_by, balance}
-use Rattle.rules.specs.LowerBound.{within, confined, share, lower_bound}
+use Rattle.rules.specs.Sheet.{Book, Batch, waiting, begun}
+use Rattle.rules.specs.Field.{Field, value, blank, fault, field}
+use Rattle.rules.specs.Read.{Reading, accepted, refused_at, read}
+use Rattle.rules.specs.Render.{mark, Given, numbered, left_blank, Described, Description, render}
+use Rattle.rules.specs.Rewrite.{written, unmarked, open_columns, alike}
+use Rattle.rules.specs.Edit.{add, withdraw, requalify, move, start}
+use Rattle.rules.specs.Instance.{Assignment, busy, instance}
+use Rattle.rules.specs.Load.{makespan, permitted}
+use Rattle.rules.specs.Group.{passed, failed}
+use Rattle.rules.specs.LowerBound.{within}
 use Rattle.rules.specs.Marks.{marks_of}
 use Rattle.rules.specs.Round.{multiples, equal_lengths, close_to}
-use Rattle.rules.specs.Plan as P
-use Rattle.rules.specs.Moves.{Move, records, move_numbers}
-use Rattle.rules.specs.Run.{Call, editing, reviewing, trying, balancing, settling, Answer, refused, done, reviewed, tried, balanced, settled, balance_book, answer, next, book_after, answers}
+use Rattle.rules.specs.Moves.{Move}
+use Rattle.rules.specs.Run.{Call, editing, reviewing, trying, balancing, settling, Answer, refused, done, reviewed, tried, balanced, settled, balance_book, answer, next, answers}
 use Rattle.rules.specs.Interleave.{independent, all_independent, interleave}
-use Rattle.rules.specs.Lent.{Hosted, into_buffer}
-use Rattle.rules.specs.Listing.{batch_listing, listing, program, host}
-use Rattle.rules.specs.Journal.{numbers_at, list_at, add_at, withdraw_at, requalify_at, move_at, start_at, trial_at, balance_at, settle_at, call_at, call_line, lines_by, journal, answer_lines, run_host, write_host}
+use Rattle.rules.specs.Lent.{Hosted}
+use Rattle.rules.specs.Listing.{program, host}
+use Rattle.rules.specs.Journal.{run_host, write_host}
 use Rattle.rules.specs.Filed.{Filed, filed}
 use Rattle.rules.specs.Text.{bytes, lines}
 
 -- ---- the sheets
 
-abbrev p1 : List ℕ
+abbrev pub p1 : List ℕ
 p1 =
     lines
     ("     2     3"
@@ -42,7 +37,7 @@ p1 =
     ∷ "    10     1     0     2     1     2"
     ∷ [])
 
-abbrev p2 : List ℕ
+abbrev pub p2 : List ℕ
 p2 =
     lines
     ("     2     3"
@@ -52,13 +47,13 @@ p2 =
     ∷ "    10     1     0     1     1"
     ∷ [])
 
-abbrev p3 : List ℕ
+abbrev pub p3 : List ℕ
 p3 = lines ("     2     0" ∷ "     0     0" ∷ [])
 
-abbrev p4 : List ℕ
+abbrev pub p4 : List ℕ
 p4 = lines ("     1     1" ∷ "     0" ∷ "  1440     1     0     1     1" ∷ [])
 
-abbrev p5 : List ℕ
+abbrev pub p5 : List ℕ
 p5 =
     lines
     ("     2     3"
@@ -68,7 +63,7 @@ p5 =
     ∷ "    20     2     0     1     2"
     ∷ [])
 
-abbrev p6 : List ℕ
+abbrev pub p6 : List ℕ
 p6 =
     lines
     ("     2     3"
@@ -79,7 +74,7 @@ p6 =
     ∷ [])
 
 -- one instrument, so no trial below its load leaves an underloaded one
-abbrev alone : List ℕ
+abbrev pub alone : List ℕ
 alone =
     lines
     ("     1     3"
@@ -90,11 +85,11 @@ alone =
     ∷ [])
 
 -- the longest batch is not on instrument 1
-abbrev apart : List ℕ
+abbrev pub apart : List ℕ
 apart = lines ("     2     2" ∷ "     0     0" ∷ "     5     1     0     1     1" ∷ "    30     2     0     1     2" ∷ [])
 
 -- level 1 fails, and level 2 passes with steps of its own only from the standing assignment
-abbrev again : List ℕ
+abbrev pub again : List ℕ
 again =
     lines
     ("     2     3"
@@ -105,7 +100,7 @@ again =
     ∷ [])
 
 -- level 0 passes, 1 fails, 2 passes
-abbrev uneven : List ℕ
+abbrev pub uneven : List ℕ
 uneven =
     lines
     ("     3     4"
@@ -117,7 +112,7 @@ uneven =
     ∷ [])
 
 -- every trial that passes leaves the standing assignment, and settling then makes two moves
-abbrev unsettled : List ℕ
+abbrev pub unsettled : List ℕ
 unsettled =
     lines
     ("     2     4"
@@ -129,7 +124,7 @@ unsettled =
     ∷ [])
 
 -- a place given as an instrument, as 0 and as blanks
-abbrev three_ways : List ℕ
+abbrev pub three_ways : List ℕ
 three_ways =
     lines
     ("     2     3"
@@ -140,7 +135,7 @@ three_ways =
     ∷ [])
 
 -- all lengths are multiples of 2, and the plan is as late as that allows
-abbrev rounded : List ℕ
+abbrev pub rounded : List ℕ
 rounded =
     lines
     ("     2     3"
@@ -151,7 +146,7 @@ rounded =
     ∷ [])
 
 -- equal lengths: the plan is a best one, and the lower bound is below it
-abbrev equals : List ℕ
+abbrev pub equals : List ℕ
 equals =
     lines
     ("     2     3"
@@ -162,7 +157,7 @@ equals =
     ∷ [])
 
 -- settling moves batch 2 away and back, and batch 4 in between
-abbrev returning : List ℕ
+abbrev pub returning : List ℕ
 returning =
     lines
     ("     3     4"
@@ -174,7 +169,7 @@ returning =
     ∷ [])
 
 -- a calibration of 10 minutes on instrument 1, beside two batches that can run nowhere else
-abbrev calibrated : List ℕ
+abbrev pub calibrated : List ℕ
 calibrated =
     lines
     ("     2     2"
@@ -184,15 +179,15 @@ calibrated =
     ∷ [])
 
 -- the longest of all is a calibration
-abbrev slow_start : List ℕ
+abbrev pub slow_start : List ℕ
 slow_start = lines ("     2     1" ∷ "    10    40" ∷ "    20     2     0     2     1     2" ∷ [])
 
 -- calibrations and no batch
-abbrev idle : List ℕ
+abbrev pub idle : List ℕ
 idle = lines ("     2     0" ∷ "    30    20" ∷ [])
 
 -- P1, but batch 1 has started, and cannot leave its instrument
-abbrev loaded : List ℕ
+abbrev pub loaded : List ℕ
 loaded =
     lines
     ("     2     3"
@@ -203,7 +198,7 @@ loaded =
     ∷ [])
 
 -- the same, as a book
-abbrev loaded_book : Book
+abbrev pub loaded_book : Book
 loaded_book = record {
   m = 2;
   calibrations = 0 ∷ 0 ∷ [];
@@ -211,7 +206,7 @@ loaded_book = record {
 }
 
 -- three that have started on one instrument, and could have run on three
-abbrev stuck : List ℕ
+abbrev pub stuck : List ℕ
 stuck =
     lines
     ("     3     3"
@@ -222,24 +217,24 @@ stuck =
     ∷ [])
 
 -- a sheet of two instruments and one batch, whose line is given here
-abbrev single : String → List ℕ
+abbrev pub single : String → List ℕ
 single a = lines ("     2     1" ∷ "     0     0" ∷ a ∷ [])
 
 -- a batch that has started on the second instrument of its list
-abbrev on_second : List ℕ
+abbrev pub on_second : List ℕ
 on_second = single "    10     2     1     2     1     2"
 
 -- a book with 200 batches
-abbrev full : Book
+abbrev pub full : Book
 full = record { m = 2; calibrations = 0 ∷ 0 ∷ []; batches = replicate 200 (waiting 1 (1 ∷ []) 1) }
 
 -- a sheet of three instruments and two batches, the second of which has this line
-abbrev on_three : String → List ℕ
+abbrev pub on_three : String → List ℕ
 on_three a = lines ("     3     2" ∷ "     0     0     0" ∷ "    20     0     0     2     2     3" ∷ a ∷ [])
 
 -- ---- what is asked, and what is said
 
-data Ask : Type 0 where
+pub data Ask : Type 0 where
   -- a field at the front of a text
   field_of : String → Ask
   -- a file
@@ -276,15 +271,15 @@ data Ask : Type 0 where
   mixing : List Bool → List ℕ → List ℕ → Ask
 
 -- the lengths are multiples of g, and all equal; the other plan is permitted; balance's finish and the other's; the bound for g holds
-record Comparison : Type 0 where
-  multiples : Bool
-  equal : Bool
-  permitted : Bool
-  finish : ℕ
-  other : ℕ
-  close : Bool
+pub record Comparison : Type 0 where
+  pub multiples : Bool
+  pub equal : Bool
+  pub permitted : Bool
+  pub finish : ℕ
+  pub other : ℕ
+  pub close : Bool
 
-data Said : Type 0 where
+pub data Said : Type 0 where
   field_said : Field → Said
   reading_said : Reading → Said
   file_said : List ℕ → Said
@@ -301,11 +296,11 @@ data Said : Type 0 where
   mixed : List ℕ → Said
   no_sheet : Said
 
-abbrev calls_on : Reading → List Call → Said
+abbrev pub calls_on : Reading → List Call → Said
 calls_on (accepted k) cs = answered (answers k cs)
 calls_on (refused_at e j) cs = no_sheet
 
-abbrev compared_on : Reading → ℕ → Assignment → Said
+abbrev pub compared_on : Reading → ℕ → Assignment → Said
 compared_on (accepted k) g y =
     let I = instance k in
     compared (record {
@@ -318,16 +313,16 @@ compared_on (accepted k) g y =
     })
 compared_on (refused_at e j) g y = no_sheet
 
-abbrev busy_on : Reading → Said
+abbrev pub busy_on : Reading → Said
 busy_on (accepted k) = matched (busy k)
 busy_on (refused_at e j) = no_sheet
 
 -- batches as numbers
-abbrev batch_numbers : List Batch → List ℕ
+abbrev pub batch_numbers : List Batch → List ℕ
 batch_numbers [] = []
 batch_numbers (b ∷ bs) = b.minutes ∷ b.place ∷ mark b.started ∷ length b.list ∷ b.list ++ batch_numbers bs
 
-abbrev swapped_on : Book → Call → Call → Said
+abbrev pub swapped_on : Book → Call → Call → Said
 swapped_on k c d =
     let j = next k c in
     let i = next k d in
@@ -335,11 +330,11 @@ swapped_on k c d =
     swapped (independent c d) (answer k c ∷ answer j d ∷ []) (answer i c ∷ answer k d ∷ [])
     (alike (unmarked l) l (batch_numbers (next i c).batches))
 
-abbrev written_of : Reading → Said
+abbrev pub written_of : Reading → Said
 written_of (accepted k) = file_said (written k)
 written_of (refused_at e j) = no_sheet
 
-abbrev say : Ask → Said
+abbrev pub say : Ask → Said
 say (field_of s) = field_said (field (bytes s))
 say (reading s) = reading_said (read s)
 say (writing s) = written_of (read s)
@@ -359,32 +354,32 @@ say (separating xs ys) = matched (all_independent xs ys)
 say (mixing t xs ys) = mixed (interleave t xs ys)
 
 -- a row: the case's number in document 01, what is asked, and what is to be said
-record Row : Type 0 where
-  name : ℕ
-  ask : Ask
-  says : Said
+pub record Row : Type 0 where
+  pub name : ℕ
+  pub ask : Ask
+  pub says : Said
 
-abbrev row : ℕ → Ask → Said → Row
+abbrev pub row : ℕ → Ask → Said → Row
 row k a s = record { name = k; ask = a; says = s }
 
-abbrev balance_said : ℕ → ℕ → ℕ → ℕ → ℕ → List ℕ → List ℕ → List Move → Answer
+abbrev pub balance_said : ℕ → ℕ → ℕ → ℕ → ℕ → List ℕ → List ℕ → List Move → Answer
 balance_said f lb a r b g x l =
     balanced (record { makespan = f; lower_bound = lb; level = a; lifts = r; pushes = b; group = g; assignment = x }) l
 
-abbrev settle_said : ℕ → ℕ → List ℕ → List Move → Answer
+abbrev pub settle_said : ℕ → ℕ → List ℕ → List Move → Answer
 settle_said f v x l = settled (record { makespan = f; moves = v; assignment = x }) l
 
-abbrev went : ℕ → ℕ → ℕ → Move
+abbrev pub went : ℕ → ℕ → ℕ → Move
 went b i j = record { batch = b; from = i; to = j }
 
-abbrev review_said : List ℕ → ℕ → ℕ → Answer
+abbrev pub review_said : List ℕ → ℕ → ℕ → Answer
 review_said l f b = reviewed (record { loads = l; makespan = f; improving = b })
 
-abbrev described_of : ℕ → Given → List ℕ → Described
+abbrev pub described_of : ℕ → Given → List ℕ → Described
 described_of t p l = record { minutes = t; list = l; place = p; started = false }
 
 -- the description of three_ways
-abbrev three_given : Description
+abbrev pub three_given : Description
 three_given = record {
   m = 2;
   calibrations = 0 ∷ 0 ∷ [];
@@ -396,10 +391,10 @@ three_given = record {
 }
 
 -- a file like three_ways, but for the columns of its lines 3 and 4 given here
-abbrev like_three_ways : String → String → List ℕ
+abbrev pub like_three_ways : String → String → List ℕ
 like_three_ways a b = lines ("     2     3" ∷ "     0     0" ∷ a ∷ b ∷ "    30     1     0     2     1     2" ∷ [])
 
-table : List Row
+unfoldable pub table : List Row
 table =
     row 1 (printing p1)
     (printed
@@ -895,13 +890,8 @@ table =
     (hosted (record { refusal = 0; line = 0; length = 21; buffer = lines ("    13" ∷ "    13" ∷ "     0" ∷ []) }))
     ∷ []
 
-abbrev asked : List Row → List Said
+abbrev pub asked : List Row → List Said
 asked t = map (λ (r : Row). say r.ask) t
 
-abbrev said : List Row → List Said
+abbrev pub said : List Row → List Said
 said t = map (λ (r : Row). r.says) t
-
--- the rules say what the table says
-cases : asked table ≡ said table
-unfolding table bytes lines ◌and◌ ◌or◌ mem every sum_to most max_to or_else first_to any_to all_to lesser least_to greater greatest_to those_to list_to is_batch good_instruments good_minutes good_calibration good_calibrations is_instrument distinct good_list ascending_from ascending good_batch sound digits lone_zero blanks field number_at place_at end_of_line head_line calibrations_at calibration_line mark_at instruments_at good_place batch_line batch_lines lines_after read columns fields render_batches render written open_in_batches open_columns alike batch_within_limits within_limits kept edit calibrations_to busy load makespan longest total permitted elsewhere improves_at improves review mover target moved squares settle_by settle at_level underloaded overloaded unplaced machine_arc job_arc lift_over push_or deed job_deed machine_deed some_underloaded act_machine act_job act steps_by lift_bound push_bound ended_by overflows reach reach_by closure group trial search_by balance within confined share lower_bound marks_of multiples equal_lengths close_to P.balanced P.rested P.plan records move_numbers answer next book_after answers independent all_independent interleave into_buffer batch_listing listing program host numbers_at list_at add_at withdraw_at requalify_at move_at start_at trial_at balance_at settle_at call_at call_line lines_by journal answer_lines run_host write_host filed
-cases = refl

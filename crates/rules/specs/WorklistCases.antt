@@ -1,28 +1,22 @@
--- The corners of RFC 4180 and of document 02's C-18, each in a table with a theorem over it.
-use Rattle.std.specs.Prelude.{ℕ, zero, suc, ◌≡◌, refl, List, [], ◌∷◌, ◌++◌, map, replicate}
+-- The corners of RFC 4180 and of document 02's C-18, each in a table with a theorem over it (proofs/WorklistCases).
+use Rattle.std.specs.Prelude.{ℕ, zero, suc, List, [], ◌∷◌, ◌++◌, map, replicate}
 use Prim.Native.String.{String}
-use Rattle.rules.specs.Fold.{◌and◌, ◌or◌, mem, every}
-use Rattle.rules.specs.Sheet.{good_instruments, good_minutes, good_calibration, good_calibrations, is_instrument, distinct, good_list, ascending_from, ascending}
-use Rattle.rules.specs.Field.{digits, lone_zero, blanks, field}
-use Rattle.rules.specs.Read.{number_at, place_at, end_of_line, head_line, calibrations_at, calibration_line, mark_at, instruments_at, good_place, batch_line, batch_lines, lines_after, read}
-use Rattle.rules.specs.Render.{columns, fields, render_batches, render}
-use Rattle.rules.specs.Rewrite.{written}
-use Rattle.rules.specs.Lent.{Due, text, refusal, Hosted, into_buffer}
+use Rattle.rules.specs.Lent.{Due, text, refusal, Hosted}
 use Rattle.rules.specs.Text.{bytes, lines}
-use Rattle.rules.specs.Csv.{is_text, is_inside, record_end, fields_from, Csv, file_by, csv}
-use Rattle.rules.specs.Worklist.{well_formed, value_from, number, number_or_empty, parts, numbers, number_list, Row, row_of, Worklist, rows, faulty_row, rows_of, worklist, row_lines, sheet_saying, taken, taken_due, take_host}
+use Rattle.rules.specs.Csv.{Csv, csv}
+use Rattle.rules.specs.Worklist.{Row, Worklist, rows, faulty_row, taken, taken_due, take_host}
 
 -- ---- files of RFC 4180
 
 -- a file, its records before the first that is not of the form, and that record's number
-record CsvCase : Type 0 where
-  file : List ℕ
-  says : Csv
+pub record CsvCase : Type 0 where
+  pub file : List ℕ
+  pub says : Csv
 
-abbrev csv_case : String → List (List String) → ℕ → CsvCase
+abbrev pub csv_case : String → List (List String) → ℕ → CsvCase
 csv_case t rs k = record { file = bytes t; says = record { records = map (map bytes) rs; fault = k } }
 
-csv_table : List CsvCase
+unfoldable pub csv_table : List CsvCase
 csv_table =
     csv_case "" (("" ∷ []) ∷ []) 0
     ∷ csv_case "\r\n" (("" ∷ []) ∷ []) 0
@@ -56,34 +50,30 @@ csv_table =
     ∷ csv_case "\"ÿ\"" [] 1
     ∷ []
 
-as_csv : List CsvCase → List Csv
+unfoldable pub as_csv : List CsvCase → List Csv
 as_csv t = map (λ (c : CsvCase). csv c.file) t
 
-csv_said : List CsvCase → List Csv
+unfoldable pub csv_said : List CsvCase → List Csv
 csv_said t = map (λ (c : CsvCase). c.says) t
-
-csv-cases : as_csv csv_table ≡ csv_said csv_table
-unfolding as_csv csv_said csv_table bytes ◌and◌ ◌or◌ is_text is_inside record_end fields_from file_by csv
-csv-cases = refl
 
 -- ---- worklists
 
 -- a file, and what it says
-record Case : Type 0 where
-  file : List ℕ
-  says : Worklist
+pub record Case : Type 0 where
+  pub file : List ℕ
+  pub says : Worklist
 
-abbrev case : String → Worklist → Case
+abbrev pub case : String → Worklist → Case
 case t w = record { file = bytes t; says = w }
 
-abbrev row : ℕ → ℕ → ℕ → List ℕ → Row
+abbrev pub row : ℕ → ℕ → ℕ → List ℕ → Row
 row t p k l = record { minutes = t; place = p; mark = k; list = l }
 
 -- a well-formed row, alone in its file
-abbrev good : Worklist
+abbrev pub good : Worklist
 good = rows (row 30 1 0 (1 ∷ []) ∷ [])
 
-table : List Case
+unfoldable pub table : List Case
 table =
     -- how files begin and end
     case "" (faulty_row 1)
@@ -172,46 +162,41 @@ table =
     ∷ case "30,1,0,1\r\n30\n\r\n30,1" (faulty_row 2)
     ∷ []
 
-asked : (List ℕ → Worklist) → List Case → List Worklist
+unfoldable pub asked : (List ℕ → Worklist) → List Case → List Worklist
 asked reader t = map (λ (c : Case). reader c.file) t
 
-said : List Case → List Worklist
+unfoldable pub said : List Case → List Worklist
 said t = map (λ (c : Case). c.says) t
-
--- the grammar with the checks of its fields says what the table says
-cases : asked worklist table ≡ said table
-unfolding asked said table bytes ◌and◌ ◌or◌ every is_text is_inside record_end fields_from file_by csv well_formed value_from number number_or_empty parts numbers number_list row_of rows_of worklist
-cases = refl
 
 -- ---- taking a worklist
 
 -- m and the calibrations, a file, and what is due: the sheet's file, or a refusal with its row
-record TakeCase : Type 0 where
-  m : ℕ
-  calibrations : List ℕ
-  file : List ℕ
-  due : Due
+pub record TakeCase : Type 0 where
+  pub m : ℕ
+  pub calibrations : List ℕ
+  pub file : List ℕ
+  pub due : Due
 
-abbrev takes : ℕ → List ℕ → String → List String → TakeCase
+abbrev pub takes : ℕ → List ℕ → String → List String → TakeCase
 takes m l t s = record { m = m; calibrations = l; file = bytes t; due = text (lines s) }
 
-abbrev refuses : ℕ → List ℕ → String → ℕ → ℕ → TakeCase
+abbrev pub refuses : ℕ → List ℕ → String → ℕ → ℕ → TakeCase
 refuses m l t e j = record { m = m; calibrations = l; file = bytes t; due = refusal e j }
 
 -- on two instruments without calibrations
-abbrev at_row : String → ℕ → ℕ → TakeCase
+abbrev pub at_row : String → ℕ → ℕ → TakeCase
 at_row t e j = refuses 2 (0 ∷ 0 ∷ []) t e j
 
 -- a text n times over
-again : ℕ → List ℕ → List ℕ
+unfoldable pub again : ℕ → List ℕ → List ℕ
 again zero t = []
 again (suc n) t = t ++ again n t
 
 -- so many rows, and then a text
-abbrev many : ℕ → String → String → ℕ → ℕ → TakeCase
+abbrev pub many : ℕ → String → String → ℕ → ℕ → TakeCase
 many n t u e j = record { m = 1; calibrations = 0 ∷ []; file = again n (bytes t) ++ bytes u; due = refusal e j }
 
-take_table : List TakeCase
+unfoldable pub take_table : List TakeCase
 take_table =
     -- what is taken
     takes 2 (0 ∷ 0 ∷ []) "30,1,0,\"1,2\"\r\n20,1,0,1\r\n10,1,0,\"1,2\"\r\n"
@@ -268,18 +253,14 @@ take_table =
     ∷ at_row "30,1,0,1\r\n30,2,0,1\r\n0,1,0,1\r\n" 5 2
     ∷ []
 
-taking : List TakeCase → List Due
+unfoldable pub taking : List TakeCase → List Due
 taking t = map (λ (c : TakeCase). taken_due (taken c.m c.calibrations c.file)) t
 
-due : List TakeCase → List Due
+unfoldable pub due : List TakeCase → List Due
 due t = map (λ (c : TakeCase). c.due) t
 
-take_cases : taking take_table ≡ due take_table
-unfolding taking due take_table again bytes lines ◌and◌ ◌or◌ mem every good_instruments good_minutes good_calibration good_calibrations is_instrument distinct good_list ascending_from ascending digits lone_zero blanks field number_at place_at end_of_line head_line calibrations_at calibration_line mark_at instruments_at good_place batch_line batch_lines lines_after read columns fields render_batches render written is_text is_inside record_end fields_from file_by csv well_formed value_from number number_or_empty parts numbers number_list row_of rows_of worklist row_lines sheet_saying taken
-take_cases = refl
-
 -- a buffer that is long enough gets the sheet; a shorter one, or a refusal, nothing
-hosted : List Hosted
+unfoldable pub hosted : List Hosted
 hosted =
     take_host 1 (0 ∷ []) (bytes "30,,0,1") (again 51 (120 ∷ []))
     ∷ take_host 1 (0 ∷ []) (bytes "30,,0,1") (again 52 (120 ∷ []))
@@ -287,7 +268,7 @@ hosted =
     ∷ take_host 1 (0 ∷ []) (bytes "30,,0") (again 2 (120 ∷ []))
     ∷ []
 
-hosted-said : List Hosted
+unfoldable pub hosted-said : List Hosted
 hosted-said =
     record {
       refusal = 0;
@@ -304,7 +285,3 @@ hosted-said =
     ∷ record { refusal = 9; line = 0; length = 0; buffer = again 50 (120 ∷ []) }
     ∷ record { refusal = 12; line = 1; length = 0; buffer = again 2 (120 ∷ []) }
     ∷ []
-
-host-cases : hosted ≡ hosted-said
-unfolding hosted hosted-said again bytes lines ◌and◌ ◌or◌ mem every good_instruments good_minutes good_calibration good_calibrations is_instrument distinct good_list ascending_from ascending digits lone_zero blanks field number_at place_at end_of_line head_line calibrations_at calibration_line mark_at instruments_at good_place batch_line batch_lines lines_after read columns fields render_batches render written is_text is_inside record_end fields_from file_by csv well_formed value_from number number_or_empty parts numbers number_list row_of rows_of worklist row_lines sheet_saying taken into_buffer take_host
-host-cases = refl

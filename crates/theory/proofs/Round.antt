@@ -1,7 +1,7 @@
 -- Round lengths (document 02, C-12): where every length is a multiple of g, so are the longest length and every makespan, and of two
 -- multiples the larger is so by g or more.
 use Prim.Native.Nat.{ℕ, zero, suc, ◌+◌, ◌%◌, ◌≤◌, ◌<◌, ◌∣◌}
-use mathlib.Core.Path.{◌≡◌, refl, ap, ◌∙◌}
+use mathlib.Core.Path.{◌≡◌, ap, ◌∙◌}
 use mathlib.Core.Bool.{Bool, true, false}
 use native.Mathlib.Nat.{le_refl, dvd-zero, dvd-add, dvd-sub, dvd_of_mod-eq-zero, le_of_dvd, mod-one, mod_self}
 use native.Mathlib.Omega.{arith}

@@ -7,7 +7,7 @@ use native.Mathlib.Omega.{arith}
 use lib.ListN.{length, get_or, length-append, length-set, length-map}
 use lib.Dec.{leb, ltb, eqb}
 use borrow.Author.Tests.{leb-true, ltb-true, eqb-true, le-leb, not-true}
-use Rattle.rules.specs.Fold.{◌and◌, at, mem, every}
+use Rattle.rules.specs.Fold.{◌and◌, mem, every}
 use Rattle.rules.specs.Refusal.{Refusal}
 use Rattle.rules.specs.Sheet.{Batch, Book, waiting, size, batch, no_batch_here, is_batch, head, max_batches, good_instruments, good_minutes, good_calibrations, is_instrument, good_list, ascending, good_batch, sound}
 use Rattle.rules.specs.Edit.{Edit, add, withdraw, requalify, move, start, Edited, edited, unless, kept, without, with_batches, with_batch, if_waiting, if_listed, edit}

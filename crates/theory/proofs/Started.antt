@@ -8,7 +8,7 @@ use lib.ListN.{get_or, get_or-append, get_or-eq_default}
 use lib.Seq.{get_or-set_other}
 use lib.Dec.{leb, ltb}
 use borrow.Author.Tests.{ltb-true, ltb-false, leb-true, not-true}
-use Rattle.rules.specs.Fold.{◌and◌, pick, mem}
+use Rattle.rules.specs.Fold.{pick, mem}
 use Rattle.rules.specs.Refusal.{Refusal, bad_length, bad_list, bad_place, bad_order, no_batch, sheet_full, has_started}
 use Rattle.rules.specs.Sheet.{Book, Batch, with_place, no_batch_here, batch, is_batch, size, max_batches, good_minutes, good_list, ascending}
 use Rattle.rules.specs.Edit.{Edit, add, withdraw, requalify, move, start, Edited, edited, unless, without, with_batches, with_batch, if_waiting, if_listed, edit}
