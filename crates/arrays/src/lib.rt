@@ -1,4 +1,6 @@
 // Sums and the greatest over plain arrays, and sets of machines in words.
+#![tactic(auto)]
+
 pub mod scan;
 pub mod sets;
 

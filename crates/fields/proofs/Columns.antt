@@ -6,8 +6,6 @@ use mathlib.Core.List.{List, [], ◌∷◌}
 use native.Mathlib.Nat.{pow-suc, pow-le-pow_right}
 use native.Mathlib.Numerals.{add-one}
 use native.Mathlib.Omega.{arith}
-use denote.Enum.Declared.{tag_of}
-use types.Run.{OneOf, miss}
 use lib.Dec.{leb, eqb, lit<}
 use lib.ListN.{length, get_or, take, drop, length-drop, drop_of_length-le}
 use lib.Seq.{drop-cons, get_or-take, length-take-le, take_all}
@@ -20,7 +18,6 @@ use Rattle.theory.proofs.Logic.{by_test, and_left, and_right, and-mk}
 use Rattle.fields.specs.declared.Field.{Field}
 use Rattle.fields.specs.declared.Field.TheVariants.{Value, Blank, Fault}
 use Rattle.fields.specs.Columns.{coded_field, below, digit_after, column_after}
-use Rattle.fields.specs.contracts.Field.{the_type}
 
 -- ---- a column that is a digit, or not
 
@@ -119,7 +116,7 @@ place-blank f blank d e = refl
 place-blank f fault d e = absurd (let z : ◌≡◌ {A = ℕ} 0 1 = cc in omega arith)
 
 -- any other stays
-pub place_other : (f : Field) (g : F.Field) → f ≡ coded_field g → OneOf (0 ∷ 2 ∷ []) (tag_of the_type f) → f ≡ coded_field (blank_zero g)
+pub place_other : (f : Field) (g : F.Field) → f ≡ coded_field g → (f ≡ Blank → ⊥) → f ≡ coded_field (blank_zero g)
 place_other f (value v) d k = d
-place_other f blank d k = absurd (miss (0 ∷ 2 ∷ []) 1 tt (rw d at k))
+place_other f blank d k = absurd (k d)
 place_other f fault d k = d

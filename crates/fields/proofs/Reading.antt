@@ -4,8 +4,6 @@ use mathlib.Core.Path.{◌≡◌, refl, ◌∙◌}
 use mathlib.Core.Bool.{true, false}
 use mathlib.Core.List.{List, [], ◌∷◌}
 use native.Mathlib.Omega.{arith}
-use denote.Enum.Declared.{tag_of}
-use types.Run.{OneOf, miss}
 use lib.Dec.{leb}
 use lib.ListN.{length, drop, length-drop, drop_of_length-le}
 use lib.Seq.{drop-drop}
@@ -19,7 +17,6 @@ use Rattle.theory.proofs.Field.{six, six-place}
 use Rattle.fields.specs.declared.Field.{Field}
 use Rattle.fields.specs.declared.Field.TheVariants.{Value}
 use Rattle.fields.specs.Columns.{coded_field, ends_line}
-use Rattle.fields.specs.contracts.Field.{the_type}
 
 -- ---- the field at a place
 
@@ -29,8 +26,8 @@ pub record NumberRead (p : Part ℕ) (s : List ℕ) (at v : ℕ) : Type 0 where
   pub room : at + 6 ≤ length s
 
 -- an answer that is no number refuses
-by-none : (g : F.Field) (r : List ℕ) {f : Field} → f ≡ coded_field g → OneOf (1 ∷ 2 ∷ []) (tag_of the_type f) → field_part g r ≡ refuses malformed
-by-none (value v) r d k = absurd (miss (1 ∷ 2 ∷ []) 0 tt (rw d at k))
+by-none : (g : F.Field) (r : List ℕ) {f : Field} → f ≡ coded_field g → ((v : ℕ) → f ≡ Value v → ⊥) → field_part g r ≡ refuses malformed
+by-none (value v) r d k = absurd (k v d)
 by-none blank r d k = refl
 by-none fault r d k = refl
 
@@ -50,7 +47,7 @@ module _ (s : List ℕ) (at : ℕ) where
     unfolding number_at
     field-number = by_number (field (drop at s)) (six (drop at s)) d
 
-    pub field-none : OneOf (1 ∷ 2 ∷ []) (tag_of the_type f) → number_at (drop at s) ≡ refuses malformed
+    pub field-none : ((v : ℕ) → f ≡ Value v → ⊥) → number_at (drop at s) ≡ refuses malformed
     unfolding number_at
     field-none = by-none (field (drop at s)) _ d
 
@@ -60,7 +57,7 @@ module _ (s : List ℕ) (at : ℕ) where
     unfolding place_at
     place-number = by_number (blank_zero (field (drop at s))) (six-place (drop at s) (field (drop at s)) refl) d
 
-    pub place_none : OneOf (1 ∷ 2 ∷ []) (tag_of the_type f) → place_at (drop at s) ≡ refuses malformed
+    pub place_none : ((v : ℕ) → f ≡ Value v → ⊥) → place_at (drop at s) ≡ refuses malformed
     unfolding place_at
     place_none = by-none (blank_zero (field (drop at s))) _ d
 

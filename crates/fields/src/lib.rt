@@ -1,11 +1,13 @@
 // What a text of numbers is read by: a field of six columns, gone through once from the front, and the LF that ends a line.
+#![tactic(auto)]
+
 ghost use Rattle.std.specs.Prelude.{◌≡◌, ◌<◌, drop};
 ghost use Rattle.rules.specs.Field.{field};
 ghost use Rattle.rules.specs.Read.{blank_zero};
 ghost use Rattle.fields.specs.Columns.{coded_field, below, digit_after, column_after, ends_line};
 
 // What a field gives: its number, blank where all its columns are, or the fault that is refusal 1.
-#[derive(Drop)]
+#[derive(Clone, Copy)]
 pub enum Field {
     Value(u32),
     Blank,

@@ -1,5 +1,1 @@
 pub mod Filled
-pub mod Data
-pub mod CallFill
-pub mod Thin
-pub mod ThinBytes

@@ -1,4 +1,6 @@
 // Records of the batches whose places differ between two placements, in a list that a caller lends (document 02, C-14).
+#![tactic(auto)]
+
 ghost use Rattle.std.specs.Prelude.{◌≡◌, ◌≤◌, length};
 ghost use Rattle.rules.specs.Moves.{records};
 ghost use Rattle.moves.specs.Filled.{filled_by, Next};
@@ -7,7 +9,7 @@ use text::wide;
 
 // A batch's number, where it was, and where it is.
 #[repr(C)]
-#[derive(Drop)]
+#[derive(Clone, Copy)]
 pub struct Move {
     pub batch: u32,
     pub from: u32,
@@ -15,7 +17,7 @@ pub struct Move {
 }
 
 // Two placements of the first n batches.
-#[derive(Drop)]
+#[derive(Clone, Copy)]
 pub struct Change {
     pub old: [u8; 200],
     pub new: [u8; 200],
@@ -23,7 +25,7 @@ pub struct Change {
 }
 
 // A batch at which they differ, by its index, with its record.
-#[derive(Drop)]
+#[derive(Clone, Copy)]
 pub struct Step {
     pub at: usize,
     pub record: Move,

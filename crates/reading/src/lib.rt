@@ -1,4 +1,6 @@
 // Reading a sheet: lines, and the whole, each up to the first fault it meets.
+#![tactic(auto)]
+
 ghost use Rattle.std.specs.Prelude.{◌≡◌, [], ◌≤◌, ◌<◌, eqb, length, take, drop};
 ghost use Rattle.rules.specs.Sheet.{ascending};
 ghost use Rattle.rules.specs.Read.{calibration_line, batch_line, batch_lines, lines_after, read as reading};
@@ -11,7 +13,7 @@ use fields::{Field, ends_at, field_at, place_at};
 use sheet::{Reading, Refusal, Sheet, ascends, enter_part, listed, place_or, refused_at, within};
 
 // What line 2 gives and where the next line starts, or the refusal with its line.
-#[derive(Drop)]
+#[derive(Clone, Copy)]
 struct Calibrated {
     refusal: Refusal,
     line: usize,
@@ -63,7 +65,7 @@ fn calibration_line(s: &[u8], at: usize, m: usize) -> Calibrated
 }
 
 // What a batch line gives and where the next line starts, or the refusal with its line.
-#[derive(Drop)]
+#[derive(Clone, Copy)]
 struct Line {
     refusal: Refusal,
     line: usize,

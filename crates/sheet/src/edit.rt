@@ -244,7 +244,7 @@ fn refusal_of(started: &[u8], n: usize, b: usize) -> Refusal
 }
 
 // A list that was judged: its refusal, or Nothing, and its row, all 0 where it is no list for a batch.
-#[derive(Drop)]
+#[derive(Clone, Copy)]
 struct ListRow {
     refusal: Refusal,
     row: [u8; 24],

@@ -1,4 +1,6 @@
 // The sheet: m instruments with their calibrations, and up to 200 batches, and its edits. A sheet goes in by value and comes back.
+#![tactic(auto)]
+
 ghost use Rattle.std.specs.Prelude.{◌≡◌, not, ℕ, ◌+◌, ◌<◌, ◌≤◌, leb, eqb, length, get_or, take, drop};
 ghost use Rattle.std.proofs.Math.Seq.{paste};
 ghost use Rattle.rules.specs.Fold.{◌and◌, mem, pick};
@@ -12,7 +14,7 @@ pub mod edit;
 pub mod view;
 
 // The documents' refusals, by name; Nothing is none.
-#[derive(Drop)]
+#[derive(Clone, Copy)]
 pub enum Refusal {
     Nothing,
     Malformed,
@@ -54,7 +56,7 @@ pub fn code(refusal: Refusal) -> u32
 
 // What a sheet holds, in arrays: a calibration for each instrument, 0 for none, and the batches, 1 in started for each that has started;
 // batch b's list starts at 24 (b - 1) in lists. Whatever is not used is 0.
-#[derive(Drop)]
+#[derive(Clone, Copy)]
 pub struct Sheet {
     m: usize,
     n: usize,
@@ -67,14 +69,14 @@ pub struct Sheet {
 }
 
 // What an edit answers: its refusal, or Nothing, and the sheet, which a refusal leaves as it was.
-#[derive(Drop)]
+#[derive(Clone, Copy)]
 pub struct Edited {
     pub refusal: Refusal,
     pub sheet: Sheet,
 }
 
 // What reading answers: the refusal and its line, and the blank value, or Nothing, 0 and the sheet.
-#[derive(Drop)]
+#[derive(Clone, Copy)]
 pub struct Reading {
     pub refusal: Refusal,
     pub line: usize,

@@ -1,4 +1,6 @@
 // Texts of numbers in columns, written into a lent buffer.
+#![tactic(auto)]
+
 ghost use Rattle.std.specs.Prelude.{◌≡◌, [], ◌∷◌, ◌++◌, ◌+◌, ◌*◌, ◌^◌, ◌<◌, ◌≤◌, length, drop};
 ghost use Rattle.std.proofs.Math.Seq.{paste};
 ghost use Rattle.rules.specs.Render.{columns, fields, line};
@@ -7,7 +9,7 @@ ghost use Rattle.text.specs.Columns.{column};
 // What a call with a lent buffer answers: the refusal's number, 0 for none, and its line, 0 for none and for 9; and how many bytes the
 // text has, 0 on a refusal.
 #[repr(C)]
-#[derive(Drop)]
+#[derive(Clone, Copy)]
 pub struct Hosted {
     pub refusal: u32,
     pub line: usize,

@@ -1,5 +1,5 @@
 -- The rows of a worklist entered one after the other, as the code does it.
-use Prim.Native.Nat.{ℕ, suc, ◌+◌, ◌-◌, ◌≤◌, ◌<◌}
+use Prim.Native.Nat.{ℕ, suc, ◌+◌, ◌≤◌, ◌<◌}
 use mathlib.Core.Path.{◌≡◌, refl, sym, ap, ◌∙◌, subst}
 use mathlib.Core.List.{List, [], ◌∷◌}
 use native.Mathlib.Omega.{arith}
@@ -13,7 +13,6 @@ use Rattle.rules.specs.Worklist.{Row, Worklist, rows, faulty_row, row_first, wor
 use Rattle.theory.proofs.Worklist.{with_row, with_rows, rows_on, row_cut, row_more, with-row-sound}
 use Rattle.sheet.specs.declared.Sheet.{Sheet}
 use Rattle.sheet.specs.declared.Edited.{Edited}
-use Rattle.sheet.specs.declared.Reading.{Reading}
 use Rattle.sheet.specs.declared.Refusal.{Refusal}
 use Rattle.sheet.specs.declared.Refusal.TheVariants.{Nothing}
 use Rattle.sheet.specs.Represent.{Sound, firsts, book_of, sheet_of}

@@ -14,7 +14,7 @@ use Rattle.rules.specs.Csv.{is_text, is_inside, record_end, Rest, rest, broken, 
 use Rattle.rules.specs.Grammar.{NonEscaped, Quoted, Field, Record, File, Ends, Breaks}
 use Rattle.worklist.proofs.Bytes.{apart, text-quote}
 use Rattle.worklist.proofs.Record.{plain-text, plain_end, before-quote, before-plain, quoted-quote, quoted-inside, quoted-other, closing-quote, closing_end}
-use Rattle.worklist.proofs.Fuel.{Short, short, record-short}
+use Rattle.worklist.proofs.Fuel.{Short, record-short}
 
 -- ---- where records end
 

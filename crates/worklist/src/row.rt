@@ -6,7 +6,7 @@ ghost use Rattle.worklist.specs.Read.{no_part, part_as, starts_with, digit_or_te
 ghost use Rattle.worklist.specs.Read.{no_members, members_as, one_number, no_row, row_as, rows_as};
 
 // What a part of a row gives: its number, and where what follows it starts. Where it is not of the form, both are 0.
-#[derive(Drop)]
+#[derive(Clone, Copy)]
 pub struct Part {
     pub good: bool,
     pub value: u32,
@@ -158,7 +158,7 @@ fn field_at(s: &[u8], at: usize, empty: bool) -> Part
 }
 
 // What a list gives: its first 25 numbers, how many they are, and where what follows the whole list starts. No sheet's list is so long.
-#[derive(Drop)]
+#[derive(Clone, Copy)]
 struct Members {
     good: bool,
     count: usize,
@@ -273,7 +273,7 @@ fn end_at(s: &[u8], at: usize) -> Part
 
 // A row: its three numbers, the first 25 of its list with how many they are, and where the next row starts. All is 0 where the row is
 // faulty.
-#[derive(Drop)]
+#[derive(Clone, Copy)]
 pub struct Row {
     pub good: bool,
     pub minutes: u32,
@@ -338,7 +338,7 @@ pub fn row_at(s: &[u8], at: usize) -> Row
 }
 
 // What a whole file gives: the first faulty row, or 0 and how many rows there are.
-#[derive(Drop)]
+#[derive(Clone, Copy)]
 pub struct Rows {
     pub fault: usize,
     pub count: usize,

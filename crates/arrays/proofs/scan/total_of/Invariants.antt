@@ -1,0 +1,11 @@
+-- The invariant: the sum over the jobs passed.
+use Prim.Native.Nat.{◌≤◌, ◌*◌, ◌-◌}
+use mathlib.Core.Path.{◌≡◌}
+use Rattle.rules.specs.Fold.{at, sum_to}
+use Rattle.arrays.proofs.scan.total_of.Given as goal
+
+abbrev pub invariant-loop-b : goal.invariant-loop-b
+invariant-loop-b l = (l.b ≤ l.n) × (l.sum ≤ 65535 * l.b) × (l.sum ≡ sum_to l.b (λ k. at l.minutes k))
+
+abbrev pub decreases-loop-b : goal.decreases-loop-b
+decreases-loop-b l = l.n - l.b
