@@ -36,15 +36,15 @@ use Rattle.planner.specs.Drawing.{Draws, Rests}
 use Rattle.planner.specs.Calls.{balance_of, settle_of}
 
 -- the greatest load of loads kept beside places
-greatest-is : {I : Instance} {m c : ℕ} {lengths sets loads : List ℕ} (places : List ℕ) → Reads I m c lengths sets
+greatest-is : {I : Instance} {m c : ℕ} {lengths sets : List ℕ} (loads places : List ℕ) → Reads I m c lengths sets
     → ((i : ℕ) → 0 < i → i ≤ m → at loads i ≡ load I (take c places) i) → max_to m (λ i. at loads i) ≡ makespan I (take c places)
 unfolding makespan
-greatest-is {I} {m} {c} places r h =
+greatest-is {I} {m} {c} loads places r h =
     max_to-ext m _ _ h ∙ ap (λ (k : ℕ). max_to k (λ i. load I (take c places) i)) (sym r.machines)
 
 module _ {I : Instance} {m c : ℕ} {lengths sets places loads : List ℕ} (st : Standing I m c lengths sets places loads) where
   pub makespan-is : max_to m (λ i. at loads i) ≡ makespan I (take c places)
-  makespan-is = greatest-is places st.reads (λ i l u. st.kept i l (omega (arith, st.reads.machines)))
+  makespan-is = greatest-is loads places st.reads (λ i l u. st.kept i l (omega (arith, st.reads.machines)))
 
   pub drawn-permitted : {d : Drawn} → Draws I c (take c places) d → Permitted I (take c d.places)
   drawn-permitted e = rw e.places (balanced-permitted I (take c places) st.reads.valid st.permitted)
@@ -75,7 +75,7 @@ module _ {I : Instance} {m c : ℕ} {lengths sets places loads : List ℕ} (st :
       let those = ap (λ (w : B.Search). w.group) f in
       record {
         makespan =
-            k ∙ greatest-is s.places st.reads (λ i l u. found.kept i l (omega (arith, st.reads.machines))) ∙ ap (λ (x : Assignment). makespan I x) same;
+            k ∙ greatest-is s.loads s.places st.reads (λ i l u. found.kept i l (omega (arith, st.reads.machines))) ∙ ap (λ (x : Assignment). makespan I x) same;
         bound = b ∙ ap (lower_bound I) those;
         level = ap (λ (w : B.Search). w.level) f;
         lifts = ap (λ (w : B.Search). w.lifts) f;
@@ -104,7 +104,7 @@ module _ {I : Instance} {m c : ℕ} {lengths sets places loads : List ℕ} (st :
       → Rests I c (take c places) (record { makespan = makespan; moves = moves; places = places' })
   unfolding P.rested
   rested-at {places'} z k = record {
-    makespan = k ∙ greatest-is places' st.reads z.placing.each ∙ ap (λ (x : Assignment). makespan I x) z.assignment;
+    makespan = k ∙ greatest-is _ places' st.reads z.placing.each ∙ ap (λ (x : Assignment). makespan I x) z.assignment;
     moves = z.count;
     places = z.assignment;
   }

@@ -10,7 +10,7 @@ use borrow.Author.Tests.{ltb-true}
 use Rattle.rules.specs.Fold.{those_to}
 use Rattle.rules.specs.Instance.{Instance, Assignment}
 use Rattle.rules.specs.Load.{makespan}
-use Rattle.rules.specs.Group.{trial, passed}
+use Rattle.rules.specs.Group.{trial}
 use Rattle.rules.specs.Balance as B
 use Rattle.arrays.specs.Sets.{has}
 use Rattle.arrays.proofs.Words.{set-none}

@@ -12,7 +12,7 @@ use Rattle.rules.specs.Fold.{pick, at, sum_to, those_to}
 use Rattle.rules.specs.Sheet.{Book, size}
 use Rattle.rules.specs.Instance.{Instance, instance, places}
 use Rattle.rules.specs.Load.{total}
-use Rattle.rules.specs.Group.{trial, passed}
+use Rattle.rules.specs.Group.{trial}
 use Rattle.rules.specs.Run.{answer, shown}
 use Rattle.theory.proofs.Valid.{Permitted}
 use Rattle.sheet.specs.declared.Refusal.TheVariants.{Nothing, LevelAbove}

@@ -10,7 +10,7 @@ use trials::trial::{Attempt, try_level};
 
 // The level of the places kept, with their loads and counts, and one more than the highest level known to fail, with its group as a
 // set; 0 and no machine while none has failed. Beside them the places from which every trial starts, and their loads.
-#[derive(Drop)]
+#[derive(Clone, Copy)]
 pub struct Search {
     pub failed1: u32,
     pub group: u32,

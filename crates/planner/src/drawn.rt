@@ -13,7 +13,7 @@ use scans::marks::marks_of;
 use settling::settle::settle;
 
 // What balance answers, its group as a list with its size, and the places that it leaves.
-#[derive(Drop)]
+#[derive(Clone, Copy)]
 pub struct Drawn {
     pub makespan: u32,
     pub bound: u32,
@@ -62,7 +62,7 @@ pub fn draw(
 }
 
 // What settle answers, and the places that it leaves.
-#[derive(Drop)]
+#[derive(Clone, Copy)]
 pub struct Rested {
     pub makespan: u32,
     pub moves: u64,

@@ -10,7 +10,7 @@ use arrays::{JOBS, MACHINES, MARKS};
 use sheet::Sheet;
 
 // How many items; each one's minutes, its place, and 24 marks, 1 for each instrument that may run it.
-#[derive(Drop)]
+#[derive(Clone, Copy)]
 pub struct Items {
     pub n: usize,
     pub minutes: [u16; JOBS],

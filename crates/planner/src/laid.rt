@@ -10,7 +10,7 @@ use sheet::Sheet;
 
 // How many machines and jobs; each job's minutes, the machines that it may run on as marks and as a set, and its place; and the loads, 0
 // past the last machine.
-#[derive(Drop)]
+#[derive(Clone, Copy)]
 pub struct Laid {
     pub m: usize,
     pub n: usize,

@@ -1,4 +1,6 @@
 // The planner over the sheet: review, the single trial, balance and settle.
+#![tactic(auto)]
+
 use sheet::{Refusal, Sheet};
 
 mod balance;
@@ -9,7 +11,7 @@ mod laid;
 
 // What a review answers: the load of each machine, 0 past the last, the greatest, and the lowest job that would finish earlier
 // elsewhere, 0 where none would.
-#[derive(Drop)]
+#[derive(Clone, Copy)]
 pub struct Reviewed {
     pub loads: [u32; 24],
     pub makespan: u32,
@@ -18,7 +20,7 @@ pub struct Reviewed {
 
 // What a trial answers: its refusal, or Nothing; pass or failure; lifts and pushes; and the places of a pass, or the group of a
 // failure with its size. Whatever is not said is 0.
-#[derive(Drop)]
+#[derive(Clone, Copy)]
 pub struct Tried {
     pub refusal: Refusal,
     pub passed: bool,
@@ -31,7 +33,7 @@ pub struct Tried {
 
 // What balance answers: its makespan, the lower bound, the level kept with the lifts and pushes of its trial, the group of the highest
 // failed level with its size, 0 where none failed, and the sheet with its new places.
-#[derive(Drop)]
+#[derive(Clone, Copy)]
 pub struct Balanced {
     pub makespan: u32,
     pub bound: u32,
@@ -44,7 +46,7 @@ pub struct Balanced {
 }
 
 // What settle answers: its makespan, its moves, and the sheet with its new places.
-#[derive(Drop)]
+#[derive(Clone, Copy)]
 pub struct Settled {
     pub makespan: u32,
     pub moves: u64,

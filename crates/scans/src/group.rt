@@ -96,7 +96,7 @@ pub fn group_of(
 }
 
 // A list of machines: `size` of them, and zeros after them.
-#[derive(Drop)]
+#[derive(Clone, Copy)]
 pub struct Members {
     pub list: [u8; MACHINES],
     pub size: usize,

@@ -1,3 +1,5 @@
 // Settling over arrays: which job improves by moving alone, and moves until none does.
+#![tactic(auto)]
+
 pub mod improve;
 pub mod settle;

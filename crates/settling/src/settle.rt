@@ -11,7 +11,7 @@ use crate::improve::{improves, is_other};
 use arrays::{JOBS, MACHINES};
 
 // The places and loads after settling, and how many moves it took.
-#[derive(Drop)]
+#[derive(Clone, Copy)]
 pub struct Settled {
     pub places: [u8; JOBS],
     pub loads: [u32; MACHINES],

@@ -1,5 +1,5 @@
 -- A trial's end on the arrays, from a permitted assignment, and what the rules make of it.
-use Prim.Native.Nat.{ℕ, suc, ◌+◌, ◌-◌, ◌≤◌, ◌<◌}
+use Prim.Native.Nat.{ℕ, zero, suc, ◌+◌, ◌-◌, ◌≤◌, ◌<◌}
 use mathlib.Core.Path.{◌≡◌, sym, ap, subst, ◌∙◌}
 use mathlib.Core.Bool.{Bool, true, false, true≢false}
 use mathlib.Core.List.{List}
@@ -29,6 +29,7 @@ use Rattle.trials.proofs.Scanned.{some_is, first-overloaded}
 
 -- 24 times the same limit
 same-limit : (v i : ℕ) → 0 < i → i ≤ 24 → at (replicate 24 v) i ≡ v
+same-limit v zero p q = absurd (omega arith)
 same-limit v (suc i) p q = get_or-replicate 24 i v 0 q
 
 module _ {I : Instance} {m c : ℕ} {lengths sets places loads : List ℕ} (w : Standing I m c lengths sets places loads) (a limit : ℕ)

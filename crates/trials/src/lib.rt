@@ -1,4 +1,6 @@
 // One trial on arrays, a step at a time: each step is one push or one lift. And the group of a failed one.
+#![tactic(auto)]
+
 ghost use Rattle.std.specs.Prelude.{◌≡◌, ◌+◌, ◌<◌, ◌≤◌, ◌^◌, length, get_or};
 ghost use Rattle.theory.proofs.View.{None};
 ghost use Rattle.scans.specs.Waits.{waits};
@@ -13,7 +15,7 @@ pub mod trial;
 
 // A trial between two steps: the heights of machines and jobs, the places, 0 for a job without one, and the counts. Beside them
 // the loads and the lowest job that waits for a place, 0 for none; and whether nothing acts.
-#[derive(Drop)]
+#[derive(Clone, Copy)]
 pub struct State {
     machines: [u8; MACHINES],
     jobs: [u8; JOBS],

@@ -10,7 +10,7 @@ use scans::group::group_of;
 use scans::scan::first_overloaded;
 
 // What a trial leaves: its places and their loads, pass or failure, the group of a failure as a set, and its counts.
-#[derive(Drop)]
+#[derive(Clone, Copy)]
 pub struct Attempt {
     pub places: [u8; JOBS],
     pub loads: [u32; MACHINES],
