@@ -13,6 +13,7 @@ use Rattle.theory.proofs.Sound.{read-sound}
 use Rattle.theory.proofs.Taken.{taken-sound}
 use Rattle.theory.proofs.Runs.{sound-claims, next-sound}
 use Rattle.sheet.specs.declared.Sheet.{Sheet}
+use Rattle.sheet.specs.declared.Edited.{Edited}
 use Rattle.sheet.specs.declared.Reading.{Reading}
 use Rattle.sheet.specs.Represent.{sheet_of, book_of}
 use Rattle.sheet.specs.Answers.{read_as, ReadAnswered}
@@ -20,6 +21,8 @@ use Rattle.sheet.specs.declared.Refusal.TheVariants.{Nothing}
 use Rattle.sheet.proofs.Accepted.{or-accepted}
 use Rattle.sheet.proofs.Answered.{edit-next}
 use Rattle.sheet.proofs.Represent.{book-sheet, sheet-sound}
+use Rattle.calls.specs.declared.BalanceReply.{BalanceReply}
+use Rattle.calls.specs.declared.SettleReply.{SettleReply}
 use Rattle.calls.specs.Lent.{balance_reply, settle_reply, balance_as, settle_as}
 use Rattle.calls.specs.Runs.{Link, editing, reviewing, trying, balancing, settling, Reply, reply_numbers, Chain, link, chain_numbers, Source, file, worklist, says, HoldsBook, Holds, call, Whole}
 use Rattle.calls.specs.Runs as S
@@ -73,11 +76,11 @@ link-answer k b (balancing s before r after f) = rw b at f.numbers
 link-answer k b (settling s before r after f) = rw b at f.numbers
 
 pub link-next : (k : Book) {s t : Sheet} {c : Call} {r : Reply} → s ≡ sheet_of k → book_of s ≡ k → Link s c r t → t ≡ sheet_of (next k c)
-link-next k q b (editing s e r f) = rw f.is (edit-next k s e b q)
+link-next k q b (editing s e r f) = ap (λ (x : Edited). x.sheet) f.is ∙ edit-next k s e b q
 link-next k q b (reviewing s r f) = still k R.reviewing s q (reviewed-next k)
 link-next k q b (trying s a r f) = still k (R.trying a) s q (tried-next k a)
-link-next k q b (balancing s before r after f) = rw (f.is, b) (balance-next k (length before))
-link-next k q b (settling s before r after f) = rw (f.is, b) (settle-next k (length before))
+link-next k q b (balancing s before r after f) = ap (λ (x : BalanceReply). x.sheet) f.is ∙ rw b (balance-next k (length before))
+link-next k q b (settling s before r after f) = ap (λ (x : SettleReply). x.sheet) f.is ∙ rw b (settle-next k (length before))
 
 pub chain-holds : (k : Book) {s u : Sheet} {cs : List Call} {rs : List Reply} → sound k ≡ true → s ≡ sheet_of k → Chain s cs rs u → Holds k s cs rs u
 chain-holds k {s} v e S.end = S.end (stands k s v e)

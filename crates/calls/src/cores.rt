@@ -7,13 +7,13 @@ use moves::{Change, count};
 use planner::calls::{balance, settle};
 use sheet::{Refusal, Sheet};
 
-#[derive(Drop)]
+#[derive(Clone, Copy)]
 pub struct Balancing {
     pub reply: BalanceReply,
     pub change: Change,
 }
 
-#[derive(Drop)]
+#[derive(Clone, Copy)]
 pub struct Settling {
     pub reply: SettleReply,
     pub change: Change,

@@ -1,4 +1,6 @@
 // Balance and settle on a sheet, each with a list that the caller lends for the records of moves (document 02, C-14).
+#![tactic(auto)]
+
 ghost use Rattle.sheet.specs.Represent.{Sound, book_of};
 ghost use Rattle.calls.specs.Lent.{BalanceAnswered, SettleAnswered};
 
@@ -11,7 +13,7 @@ pub mod cores;
 // What balance answers: its refusal, or Nothing; its makespan, the lower bound, the level kept with the lifts and pushes of its trial, the
 // group of the highest failed level with its size; how many records there are; and the sheet with its new places. On a refusal the figures
 // are 0, and the sheet is as it was.
-#[derive(Drop)]
+#[derive(Clone, Copy)]
 pub struct BalanceReply {
     pub refusal: Refusal,
     pub makespan: u32,
@@ -26,7 +28,7 @@ pub struct BalanceReply {
 }
 
 // What settle answers, likewise: its makespan, its moves, how many records there are, and the sheet.
-#[derive(Drop)]
+#[derive(Clone, Copy)]
 pub struct SettleReply {
     pub refusal: Refusal,
     pub makespan: u32,

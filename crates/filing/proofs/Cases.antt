@@ -58,7 +58,9 @@ module _ (s : List ℕ) (c : Call) (buffer : List ℕ) where
         (w : hosted_of h out ≡ into_buffer (text (written (next k c))) buffer) where
       filed-as : filed s c buffer ≡ filed_with (hosted_of h out) (answer k c)
       unfolding filed
-      filed-as = rw (e, made, w)
+      filed-as =
+          let a : filed s c buffer ≡ filed_with (into_buffer (text (written (next k c))) buffer) (answer k c) = rw (e, made) in
+          a ∙ ap (λ (x : Hosted). filed_with x (answer k c)) (sym w)
 
       pub out-is : out ≡ (filed s c buffer).hosted.buffer
       out-is = sym (ap (λ (x : Filed). x.hosted.buffer) filed-as)

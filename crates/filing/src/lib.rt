@@ -1,6 +1,8 @@
 // Balance and settle for hosts that keep their sheet as a file: the sheet's bytes in; the figures, the records of moves and the sheet
 // written back out. The cores, for a caller whose list has so many entries: what the call answers, and the change from which the
 // list is filled.
+#![tactic(auto)]
+
 ghost use Rattle.std.specs.Prelude.{◌≡◌};
 ghost use Rattle.filing.specs.Filed.{no_balance, no_settle, BalanceFilingIs, SettleFilingIs};
 
@@ -14,7 +16,7 @@ use written::write::write;
 // its makespan, the lower bound, the level kept with the lifts and pushes of its trial, and the group of the highest failed level with
 // its size; and how many records there are. On a refusal all but the first two are 0.
 #[repr(C)]
-#[derive(Drop)]
+#[derive(Clone, Copy)]
 pub struct BalanceFiled {
     pub refusal: u32,
     pub line: usize,
@@ -31,7 +33,7 @@ pub struct BalanceFiled {
 
 // What settle answers, likewise: its makespan, its moves, and how many records there are.
 #[repr(C)]
-#[derive(Drop)]
+#[derive(Clone, Copy)]
 pub struct SettleFiled {
     pub refusal: u32,
     pub line: usize,
@@ -41,13 +43,13 @@ pub struct SettleFiled {
     pub records: usize,
 }
 
-#[derive(Drop)]
+#[derive(Clone, Copy)]
 pub struct BalanceFiling {
     pub reply: BalanceFiled,
     pub change: Change,
 }
 
-#[derive(Drop)]
+#[derive(Clone, Copy)]
 pub struct SettleFiling {
     pub reply: SettleFiled,
     pub change: Change,

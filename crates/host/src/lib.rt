@@ -1,4 +1,6 @@
 // The calls for hosts in C. To C each slice is a pointer and a length.
+#![tactic(auto)]
+
 ghost use Rattle.std.specs.Prelude.{◌≡◌};
 ghost use Rattle.rules.specs.Listing.{host};
 ghost use Rattle.rules.specs.Journal.{run_host, write_host};

@@ -5,7 +5,7 @@ use mathlib.Core.List.{List, [], ◌∷◌, ◌++◌, append_assoc, append-nil}
 use native.Mathlib.Omega.{arith}
 use lib.ListN.{length, take, drop, length-append, replicate}
 use lib.Seq.{take_at, paste}
-use Rattle.rules.specs.Sheet.{Book, sound}
+use Rattle.rules.specs.Sheet.{Book}
 use Rattle.rules.specs.Run.{Call, answer, next, book_after, answers, answer_numbers}
 use Rattle.rules.specs.Journal.{Journal, calls, faulty, with_call, journal, call_line, answer_line, answer_lines}
 use Rattle.theory.proofs.Logic.{by_test}

@@ -14,7 +14,7 @@ use sheet::{Edited, Sheet, code};
 
 // The sheet after a call, and the answer: its numbers, how many they are, and whether they are settle's. Entries past the last number
 // are 0. Balance of a full sheet has the most numbers: 7, a group of 24, the count of records, and three for each of 200.
-#[derive(Drop)]
+#[derive(Clone, Copy)]
 pub struct Made {
     pub sheet: Sheet,
     pub size: usize,

@@ -7,7 +7,7 @@ ghost use Rattle.journal.specs.Entry.{entry_with, no_entry, entry_as, no_kept, k
 use fields::{Field, ends_at, field_at};
 
 // A call's line: the kind, its numbers, the first numbers of its list and how many of them are kept, and where the next line starts.
-#[derive(Drop)]
+#[derive(Clone, Copy)]
 pub struct Entry {
     pub fault: bool,
     pub kind: u8,
@@ -51,7 +51,7 @@ impl Entry {
 }
 
 // What a list gives: its first 25 numbers, how many they are, and where what follows the whole list starts.
-#[derive(Drop)]
+#[derive(Clone, Copy)]
 struct KeptList {
     fault: bool,
     count: usize,

@@ -14,7 +14,7 @@ use sheet::{Refusal, Sheet, code};
 use text::Hosted;
 
 // What a sheet's bytes and a journal's come to: a sheet, or a refusal with its line and the blank value.
-#[derive(Drop)]
+#[derive(Clone, Copy)]
 pub struct Left {
     pub refusal: u32,
     pub line: usize,

@@ -7,7 +7,7 @@ use planner::calls::{balance, settle};
 use sheet::Sheet;
 
 // The makespan and the moves are settle's, the rest is balance's; the sheet is the one that both leave.
-#[derive(Drop)]
+#[derive(Clone, Copy)]
 pub(crate) struct Planned {
     pub(crate) makespan: u32,
     pub(crate) bound: u32,

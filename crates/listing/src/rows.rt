@@ -9,7 +9,7 @@ ghost use Rattle.listing.specs.Rows.{figures_of, rows_to, listing_text};
 use text::{put_columns, put_end, put_field, put_list, put_two, wide};
 
 // A plan's numbers, as the listing's first line has them.
-#[derive(Drop)]
+#[derive(Clone, Copy)]
 pub(crate) struct Figures {
     pub(crate) makespan: u32,
     pub(crate) bound: u32,

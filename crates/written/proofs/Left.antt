@@ -7,7 +7,7 @@ use Rattle.rules.specs.Sheet.{sound}
 use Rattle.rules.specs.Rewrite.{written}
 use Rattle.rules.specs.Run.{book_after}
 use Rattle.rules.specs.Lent.{text, into_buffer}
-use Rattle.rules.specs.Journal.{journal, sheet_text, write_host}
+use Rattle.rules.specs.Journal.{sheet_text, write_host}
 use Rattle.theory.proofs.Sound.{read-sound}
 use Rattle.theory.proofs.Runs.{after-sound}
 use Rattle.sheet.specs.Represent.{Sound, book_of}
