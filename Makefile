@@ -14,9 +14,7 @@ BIN = $(DESTDIR)$(PREFIX)/bin
 .PHONY: all test install uninstall
 
 all:
-	rt staticlib host
-	cp -f target/staticlib/libhost.a target/staticlib/libbankplan.a
-	rt check $(PROGRAMS)
+	bash scripts/build.sh host $(PROGRAMS)
 
 test:
 	bash scripts/test.sh

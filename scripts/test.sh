@@ -1,5 +1,5 @@
 #!/usr/bin/env bash
-# Every test of this repository, from nothing: layout, documents, proofs, must-fail edits, programs, a host in C, and the Rust tests.
+# Every test of this repository, from nothing: documents, proofs, layout, must-fail edits, programs, a host in C, and the Rust tests.
 # It stops at the first failure. Its last line is that of `rt ci`: 'N passed, 0 failed'.
 set -euo pipefail
 cd "$(dirname "$0")/.."
@@ -24,9 +24,6 @@ need cargo cargo
 need rustc rustc
 need gcc gcc
 
-echo "== layout"
-rt fmt --check
-
 echo "== documents, and edits outside this command"
 bash scripts/demands.sh
 bash scripts/alive.sh
@@ -38,10 +35,13 @@ trap 'kill "$beside" 2>/dev/null || true; rm -f "$log" "$rust"' EXIT
 (cd tests && nice cargo test --offline --quiet -p second) >"$rust" 2>&1 &
 beside=$!
 
-echo "== proofs, must-fail edits and programs; beside them the second planner's own tests"
+echo "== proofs, layout, must-fail edits and programs; beside them the second planner's own tests"
 rt ci 2>&1 | tee "$log"
 verdict=$(tail -n 1 "$log")
 [[ $verdict =~ ^[1-9][0-9]*\ passed,\ 0\ failed$ ]] || missing "rt ci's verdict; its last line was: $verdict"
+# an edit that could not be tried shows nothing, though `rt ci` passes it
+ok=$(grep '^rt: ok' "$log") || missing "rt ci's line 'rt: ok'"
+[[ ! $ok =~ ,\ [0-9]+\ bad ]] || missing "must-fail edits that can be tried: $ok"
 
 echo "== the second planner's own tests"
 status=0
@@ -49,9 +49,12 @@ wait "$beside" || status=$?
 cat "$rust"
 [ "$status" = 0 ] || exit 1
 
-echo "== the static library"
-rt staticlib host
-cp -f target/staticlib/libhost.a target/staticlib/libbankplan.a
+echo "== the static library; the programs are those that rt ci built and ran"
+bash scripts/build.sh host
+mkdir -p target/bin
+for name in bankplan bankrun bankwrite banktake; do
+    cp -f "crates/$name/out/$name" "target/bin/$name"
+done
 
 echo "== a host in C, and the planner against the second one in Rust"
 bash scripts/host.sh

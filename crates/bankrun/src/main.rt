@@ -8,14 +8,19 @@
 //
 // A journal of more than 262,143 bytes is refused whole, as 19 with line 0, and no call of it is made. The answers have at most 262,144
 // bytes; where they would have more, the answer is 9.
+#![tactic(auto)]
+
 use files::{JOURNAL, SHEET, buffer, put, read_both, refuse};
 use journal::print::print;
-use libc::STDOUT_FILENO;
 
-fn main() {
+fn main(rt: HostRuntime) {
+    let mut out = rt.stdout();
+    let mut err = rt.stderr();
     let mut sheet = [0u8; SHEET];
     let mut journal = buffer();
     let read = read_both(
+        &rt,
+        &mut err,
         b"bankrun",
         b"usage: bankrun SHEET JOURNAL\n",
         &mut sheet,
@@ -27,10 +32,10 @@ fn main() {
     let size = read.sheet;
     let length = read.journal;
     if length == JOURNAL {
-        refuse(STDOUT_FILENO, 19, 0);
+        refuse(&mut out, 19, 0);
         return;
     }
     let mut text = buffer();
     let count = print(&sheet[..size], &journal[..length], &mut text);
-    put(b"bankrun", &text[..count]);
+    put(&mut out, &mut err, b"bankrun", &text[..count]);
 }

@@ -10,24 +10,41 @@
 // these come from the file and the arguments, and the text goes to standard output, is not: no contract speaks of that.
 //
 // A worklist of more than 262,143 bytes is refused whole, as 12 with row 0; what is wrong with the numbers comes before that.
-ghost use Rattle.std.specs.Prelude.{◌≤◌, ◌≡◌, length};
+#![tactic(auto)]
+
+ghost use Rattle.std.specs.Prelude.{◌≡◌, ◌≤◌, length};
 
 use files::{JOURNAL, buffer, put, read_file, refuse};
-use libc::STDERR_FILENO;
+use std::env::{Env, FillError};
+use std::io::Write;
 use worklist::row::number_at;
 use written::take::take_into;
 
 // A number among the arguments, and whether it is one.
-#[derive(Drop)]
+#[derive(Clone, Copy)]
 struct Argument {
     good: bool,
     value: u32,
 }
 
-// Argument i, a number as a worklist has it.
-fn number_in(i: usize) -> Argument {
-    let mut text = io::buffer();
-    let length = os::arg(i, &mut text);
+// How many arguments there are, the program's own name among them.
+fn arg_count<R: Env>(rt: &R) -> usize {
+    let mut text = [0u8; 1];
+    for i in 0..usize::MAX {
+        if let Err(FillError::NotPresent) = rt.arg(i, &mut text) {
+            return i;
+        }
+    }
+    usize::MAX
+}
+
+// Argument i, a number as a worklist has it. One that is missing or very long is none.
+fn number_in<R: Env>(rt: &R, i: usize) -> Argument {
+    let mut text = [0u8; 4096];
+    let length = match rt.arg(i, &mut text) {
+        Ok(length) => length,
+        Err(_) => 0,
+    };
     let n = number_at(&text[..length], 0);
     Argument {
         good: n.good && n.next == length,
@@ -36,7 +53,7 @@ fn number_in(i: usize) -> Argument {
 }
 
 // The calibrations, and whether all of them are numbers.
-#[derive(Drop)]
+#[derive(Clone, Copy)]
 struct Given {
     good: bool,
     count: usize,
@@ -44,7 +61,7 @@ struct Given {
 }
 
 // The arguments from number 3 on. 25 are kept: no bank has so many.
-fn calibrations(end: usize) -> Given
+fn calibrations<R: Env>(rt: &R, end: usize) -> Given
     ensures { (result.count ≤ 25) × (25 ≡ length result.list) }
 {
     let mut list = [0u32; 25];
@@ -52,7 +69,7 @@ fn calibrations(end: usize) -> Given
     let mut good = true;
     let mut i = 3;
     while i < end {
-        let a = number_in(i);
+        let a = number_in(rt, i);
         if !a.good {
             good = false;
         }
@@ -76,16 +93,18 @@ fn fitting(size: usize) -> usize
     size
 }
 
-fn main() {
+fn main(rt: HostRuntime) {
+    let mut out = rt.stdout();
+    let mut err = rt.stderr();
     let usage = b"usage: banktake WORKLIST INSTRUMENTS CALIBRATION.. > SHEET\n";
-    let instruments = number_in(2);
-    let given = calibrations(os::arg_count());
+    let instruments = number_in(&rt, 2);
+    let given = calibrations(&rt, arg_count(&rt));
     if !(instruments.good && given.good) {
-        io::write_all(STDERR_FILENO, usage);
+        let _ = err.write_all(usage);
         return;
     }
     let mut worklist = buffer();
-    let read = read_file(b"banktake", usage, 1, &mut worklist);
+    let read = read_file(&rt, &mut err, b"banktake", usage, 1, &mut worklist);
     if !read.good {
         return;
     }
@@ -101,13 +120,13 @@ fn main() {
     );
     let refusal = r.refusal;
     if read.length == JOURNAL {
-        refuse(STDERR_FILENO, refusal, 0);
+        refuse(&mut err, refusal, 0);
         return;
     }
     if refusal != 0 {
-        refuse(STDERR_FILENO, refusal, r.line as u32);
+        refuse(&mut err, refusal, r.line as u32);
         return;
     }
     let size = r.length;
-    put(b"banktake", &text[..size]);
+    put(&mut out, &mut err, b"banktake", &text[..size]);
 }

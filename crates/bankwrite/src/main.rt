@@ -10,14 +10,19 @@
 // contract speaks of that.
 //
 // A journal of more than 262,143 bytes is refused whole, as 19 with line 0, and no call of it is made.
+#![tactic(auto)]
+
 use files::{JOURNAL, SHEET, buffer, put, read_both, refuse};
-use libc::STDERR_FILENO;
 use written::write::write_into;
 
-fn main() {
+fn main(rt: HostRuntime) {
+    let mut out = rt.stdout();
+    let mut err = rt.stderr();
     let mut sheet = [0u8; SHEET];
     let mut journal = buffer();
     let read = read_both(
+        &rt,
+        &mut err,
         b"bankwrite",
         b"usage: bankwrite SHEET JOURNAL > NEWSHEET\n",
         &mut sheet,
@@ -29,16 +34,16 @@ fn main() {
     let size = read.sheet;
     let length = read.journal;
     if length == JOURNAL {
-        refuse(STDERR_FILENO, 19, 0);
+        refuse(&mut err, 19, 0);
         return;
     }
     let mut text = [0u8; 33958];
     let r = write_into(&sheet[..size], &journal[..length], &mut text);
     let refusal = r.refusal;
     if refusal != 0 {
-        refuse(STDERR_FILENO, refusal, r.line as u32);
+        refuse(&mut err, refusal, r.line as u32);
         return;
     }
     let count = r.length;
-    put(b"bankwrite", &text[..count]);
+    put(&mut out, &mut err, b"bankwrite", &text[..count]);
 }

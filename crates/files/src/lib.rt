@@ -1,25 +1,35 @@
-// What the programs over files share: PROGRAM SHEET JOURNAL, and PROGRAM WORKLIST with numbers.
+// What the programs share: PROGRAM SHEET JOURNAL, and PROGRAM WORKLIST with numbers.
 //
 // The first 33,959 bytes of a sheet decide as the whole does. A journal has at most 262,143 bytes, and so has a worklist; a longer one fills
 // its buffer, and is refused whole.
+//
+// Nothing here allocates. What a program says of a failure goes to the writer `err`, its standard error; where that cannot be written,
+// nobody is told.
+#![tactic(auto)]
+
 ghost use Rattle.std.specs.Prelude.{◌<◌, ◌≤◌, ◌≡◌, length};
 
-use libc::{STDERR_FILENO, STDOUT_FILENO};
+use std::env::{Env, FillError};
+use std::io::{Read, Write};
+use std::{fs, io, str};
 use text::put_pair;
 
 pub const SHEET: usize = 33959;
 
 pub const JOURNAL: usize = 262144;
 
+// Linux's number for an argument that is longer than any path.
+const NAME_TOO_LONG: i32 = 36;
+
 // How many bytes of a file were read, and whether it could be.
-#[derive(Drop)]
+#[derive(Clone, Copy)]
 pub struct File {
     pub good: bool,
     pub length: usize,
 }
 
 // How many bytes of each file were read, and whether both could be.
-#[derive(Drop)]
+#[derive(Clone, Copy)]
 pub struct Files {
     pub good: bool,
     pub sheet: usize,
@@ -44,74 +54,142 @@ fn none() -> Files
     }
 }
 
-// Opens the file that argument i names, and answers a descriptor. Where there is no such argument it says the usage, where the file cannot be
-// opened why, and answers a negative number.
-fn open(program: &[u8], usage: &[u8], i: usize) -> i32 {
-    let mut path = io::buffer();
-    let length = os::arg(i, &mut path);
-    let error = os::errno();
-    if error == libc::EINVAL {
-        io::write_all(STDERR_FILENO, usage);
-        return -1;
+// Writes a line: what failed, a colon and why. The library puts the system's number behind its words, and that is left out.
+fn fail<E: Write>(err: &mut E, what: &[u8], error: &io::Error) {
+    let mut text = [0u8; 128];
+    let mut rest: &mut [u8] = &mut text;
+    let _ = write!(rest, "{error}");
+    let words = str::from_utf8(&text).unwrap_or("");
+    let words = match words.split_once(" (os error ") {
+        Some((words, _)) => words,
+        None => words.trim_end_matches('\0'),
+    };
+    let _ = err.write_all(what);
+    let _ = err.write_all(b": ");
+    let _ = err.write_all(words.as_bytes());
+    let _ = err.write_all(b"\n");
+}
+
+// Opens a file. A path is text.
+fn open_path<R: fs::Files>(rt: &R, path: &[u8]) -> io::Result<R::File> {
+    match str::from_utf8(path) {
+        Ok(path) => fs::open(rt, path),
+        Err(_) => Err(io::Error::from(io::ErrorKind::InvalidFilename)),
     }
-    if error != 0 {
-        os::fail(program);
-        return -1;
+}
+
+// Opens the file that argument i names. Where there is no such argument it says the usage, and where the file cannot be opened why.
+fn open<R: fs::Files + Env, E: Write>(
+    rt: &R,
+    err: &mut E,
+    program: &[u8],
+    usage: &[u8],
+    i: usize,
+) -> Option<R::File> {
+    let mut path = [0u8; 4096];
+    let length = match rt.arg(i, &mut path) {
+        Ok(length) => length,
+        Err(FillError::NotPresent) => {
+            let _ = err.write_all(usage);
+            return None;
+        }
+        Err(FillError::TooLong) => {
+            fail(err, program, &io::Error::from_raw_os_error(NAME_TOO_LONG));
+            return None;
+        }
+    };
+    match open_path(rt, &path[..length]) {
+        Ok(file) => Some(file),
+        Err(error) => {
+            fail(err, &path[..length], &error);
+            None
+        }
     }
-    let file = os::open_read(&path[..length]);
-    if file < 0 {
-        os::fail(&path[..length]);
+}
+
+// Reads until the text is full, the input ends or a read fails. Answers how many bytes it read.
+pub fn read_full<R: Read>(reader: &mut R, text: &mut [u8]) -> usize
+    ensures { result ≤ length text.old }
+{
+    let mut done = 0;
+    while done < text.len() {
+        let count = match reader.read(&mut text[done..]) {
+            Ok(count) => count,
+            Err(_) => 0,
+        };
+        if count == 0 {
+            break;
+        }
+        done += count;
     }
-    file
+    done
 }
 
 // `read_full` ends at a read that fails as it does at the file's end: says why the next read fails, where it does.
-fn is_readable(program: &[u8], file: i32) -> bool {
+fn is_readable<R: Read, E: Write>(err: &mut E, program: &[u8], file: &mut R) -> bool {
     let mut next = [0u8; 1];
-    if libc::read(file, &mut next) < 0 {
-        os::fail(program);
-        return false;
+    match file.read(&mut next) {
+        Ok(_) => true,
+        Err(error) => {
+            fail(err, program, &error);
+            false
+        }
     }
-    true
 }
 
 // Reads an open file, as far as it fits. Where it cannot be read, says why on standard error.
-fn read_open(program: &[u8], file: i32, text: &mut [u8]) -> File
+fn read_open<R: Read + Drop, E: Write>(
+    err: &mut E,
+    program: &[u8],
+    mut file: R,
+    text: &mut [u8],
+) -> File
     ensures { result.length ≤ length text.old }
 {
-    let length = io::read_full(file, text);
-    let good = is_readable(program, file);
+    let length = read_full(&mut file, text);
+    let good = is_readable(err, program, &mut file);
     File { good, length }
 }
 
 // Reads the file that argument i names, likewise.
-pub fn read_file(program: &[u8], usage: &[u8], i: usize, text: &mut [u8]) -> File
+pub fn read_file<R: fs::Files + Env, E: Write>(
+    rt: &R,
+    err: &mut E,
+    program: &[u8],
+    usage: &[u8],
+    i: usize,
+    text: &mut [u8],
+) -> File
     ensures { result.length ≤ length text.old }
 {
-    let file = open(program, usage, i);
-    if file < 0 {
-        return File {
+    match open(rt, err, program, usage, i) {
+        Some(file) => read_open(err, program, file, text),
+        None => File {
             good: false,
             length: 0,
-        };
+        },
     }
-    read_open(program, file, text)
 }
 
 // Reads the files that the first two arguments name. Both are opened before one is read.
-pub fn read_both(program: &[u8], usage: &[u8], sheet: &mut [u8], journal: &mut [u8]) -> Files
+pub fn read_both<R: fs::Files + Env, E: Write>(
+    rt: &R,
+    err: &mut E,
+    program: &[u8],
+    usage: &[u8],
+    sheet: &mut [u8],
+    journal: &mut [u8],
+) -> Files
     ensures { (result.sheet ≤ length sheet.old) × (result.journal ≤ length journal.old) }
 {
-    let sheet_file = open(program, usage, 1);
-    if sheet_file < 0 {
+    let Some(sheet_file) = open(rt, err, program, usage, 1) else {
         return none();
-    }
-    let journal_file = open(program, usage, 2);
-    if journal_file < 0 {
+    };
+    let Some(journal_file) = open(rt, err, program, usage, 2) else {
         return none();
-    }
-    let s = read_open(program, sheet_file, sheet);
-    let j = read_open(program, journal_file, journal);
+    };
+    let s = read_open(err, program, sheet_file, sheet);
+    let j = read_open(err, program, journal_file, journal);
     if !s.good {
         return none();
     }
@@ -125,18 +203,18 @@ pub fn read_both(program: &[u8], usage: &[u8], sheet: &mut [u8], journal: &mut [
     }
 }
 
-// Prints a text on standard output; where that fails, says why on standard error.
-pub fn put(program: &[u8], text: &[u8]) {
-    if !io::write_all(STDOUT_FILENO, text) {
-        os::fail(program);
+// Prints a text on `out`, the standard output; where that fails, says why.
+pub fn put<O: Write, E: Write>(out: &mut O, err: &mut E, program: &[u8], text: &[u8]) {
+    if let Err(error) = out.write_all(text) {
+        fail(err, program, &error);
     }
 }
 
 // Prints one line, a refusal's number and its line, on the file.
-pub fn refuse(file: i32, refusal: u32, line: u32)
+pub fn refuse<W: Write>(file: &mut W, refusal: u32, line: u32)
     requires { (refusal < 1000000) × (line < 1000000) }
 {
     let mut row = [0u8; 13];
     put_pair(&mut row, refusal, line);
-    io::write_all(file, &row);
+    let _ = file.write_all(&row);
 }
