@@ -1,5 +1,5 @@
 # make                                the static library and the programs, proved: some minutes
-# make test                           every test, from nothing
+# make test                           every test
 # make install PREFIX=.. DESTDIR=..   header, library and programs, once they are made
 # make uninstall PREFIX=.. DESTDIR=..
 

@@ -1,5 +1,5 @@
 #!/usr/bin/env bash
-# Every test of this repository, from nothing: documents, proofs, layout, must-fail edits, programs, a host in C, and the Rust tests.
+# Every test of this repository: documents, proofs, layout, must-fail edits, programs, a host in C, and the Rust tests.
 # It stops at the first failure. Its last line is that of `rt ci`: 'N passed, 0 failed'.
 set -euo pipefail
 cd "$(dirname "$0")/.."

@@ -1,4 +1,4 @@
-// The calls for hosts in C. To C each slice is a pointer and a length.
+// The calls for hosts, as a library; crate host_c exports each to C under its name.
 #![tactic(auto)]
 
 ghost use Rattle.std.specs.Prelude.{◌≡◌};
@@ -16,40 +16,29 @@ use text::Hosted;
 use written::take::take_into;
 use written::write::write_into;
 
-// Plans a sheet of any bytes and writes its listing:
-//   Hosted bankplan_plan(const uint8_t *sheet, size_t sheet_length, uint8_t *listing, size_t listing_length);
-#[unsafe(no_mangle)]
-pub extern "C" fn bankplan_plan(sheet: &[u8], listing: &mut [u8]) -> Hosted
+// Plans a sheet of any bytes and writes its listing.
+pub fn bankplan_plan(sheet: &[u8], listing: &mut [u8]) -> Hosted
     ensures { hosted_of result listing.new ≡ host sheet.now listing.old }
 {
     plan_into(sheet, listing)
 }
 
-// Makes the calls of a journal of any bytes on a sheet of any bytes, and writes their answers:
-//   Hosted bankplan_run(const uint8_t *sheet, size_t sheet_length, const uint8_t *journal, size_t journal_length,
-//                    uint8_t *answers, size_t answers_length);
-#[unsafe(no_mangle)]
-pub extern "C" fn bankplan_run(sheet: &[u8], journal: &[u8], answers: &mut [u8]) -> Hosted
+// Makes the calls of a journal of any bytes on a sheet of any bytes, and writes their answers.
+pub fn bankplan_run(sheet: &[u8], journal: &[u8], answers: &mut [u8]) -> Hosted
     ensures { hosted_of result answers.new ≡ run_host sheet.now journal.now answers.old }
 {
     run_into(sheet, journal, answers)
 }
 
-// Makes the calls of a journal of any bytes on a sheet of any bytes, and writes the file of the sheet that they leave:
-//   Hosted bankplan_write(const uint8_t *sheet, size_t sheet_length, const uint8_t *journal, size_t journal_length,
-//                      uint8_t *written, size_t written_length);
-#[unsafe(no_mangle)]
-pub extern "C" fn bankplan_write(sheet: &[u8], journal: &[u8], written: &mut [u8]) -> Hosted
+// Makes the calls of a journal of any bytes on a sheet of any bytes, and writes the file of the sheet that they leave.
+pub fn bankplan_write(sheet: &[u8], journal: &[u8], written: &mut [u8]) -> Hosted
     ensures { hosted_of result written.new ≡ write_host sheet.now journal.now written.old }
 {
     write_into(sheet, journal, written)
 }
 
-// Takes a worklist of any bytes, with so many instruments and their calibrations, and writes the file of its sheet:
-//   Hosted bankplan_take(uint32_t instruments, const uint32_t *calibrations, size_t calibrations_length,
-//                     const uint8_t *worklist, size_t worklist_length, uint8_t *sheet, size_t sheet_length);
-#[unsafe(no_mangle)]
-pub extern "C" fn bankplan_take(
+// Takes a worklist of any bytes, with so many instruments and their calibrations, and writes the file of its sheet.
+pub fn bankplan_take(
     instruments: u32,
     calibrations: &[u32],
     worklist: &[u8],
@@ -61,15 +50,8 @@ pub extern "C" fn bankplan_take(
     take_into(instruments, calibrations, worklist, sheet)
 }
 
-// Balances a sheet of any bytes, writes the records of what moved at the front of the list, and the file of the sheet that this leaves:
-//   BalanceFiled bankplan_balance(const uint8_t *sheet, size_t sheet_length, Move *moves, size_t moves_length,
-//                        uint8_t *written, size_t written_length);
-#[unsafe(no_mangle)]
-pub extern "C" fn bankplan_balance(
-    sheet: &[u8],
-    moves: &mut [Move],
-    written: &mut [u8],
-) -> BalanceFiled
+// Balances a sheet of any bytes, writes the records of what moved at the front of the list, and the file of the sheet that this leaves.
+pub fn bankplan_balance(sheet: &[u8], moves: &mut [Move], written: &mut [u8]) -> BalanceFiled
     ensures { BalanceIs sheet.now moves.old written.old result moves.new written.new }
 {
     let entries = moves.len();
@@ -78,15 +60,8 @@ pub extern "C" fn bankplan_balance(
     b.reply
 }
 
-// Settles a sheet of any bytes, likewise:
-//   SettleFiled bankplan_settle(const uint8_t *sheet, size_t sheet_length, Move *moves, size_t moves_length,
-//                      uint8_t *written, size_t written_length);
-#[unsafe(no_mangle)]
-pub extern "C" fn bankplan_settle(
-    sheet: &[u8],
-    moves: &mut [Move],
-    written: &mut [u8],
-) -> SettleFiled
+// Settles a sheet of any bytes, likewise.
+pub fn bankplan_settle(sheet: &[u8], moves: &mut [Move], written: &mut [u8]) -> SettleFiled
     ensures { SettleIs sheet.now moves.old written.old result moves.new written.new }
 {
     let entries = moves.len();
