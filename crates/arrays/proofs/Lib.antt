@@ -1,7 +1,10 @@
 pub mod Bits
 pub mod Entries
 pub mod Filling
+pub mod Folds
+pub mod Found
 pub mod Kept
+pub mod Least
 pub mod Lengths
 pub mod Loads
 pub mod Masks

@@ -1,15 +1,17 @@
 -- The loads of the machines, one job after another.
-use Prim.Native.Nat.{ℕ, zero, suc, ◌+◌, ◌*◌, ◌≤◌, ◌<◌}
+use Prim.Native.Nat.{ℕ, zero, suc, ◌+◌, ◌-◌, ◌*◌, ◌≤◌, ◌<◌}
 use mathlib.Core.Path.{◌≡◌, refl, sym, ap₂, ◌∙◌}
 use mathlib.Core.List.{List}
 use mathlib.Core.Logic.{◌≢◌}
+use native.Mathlib.Numerals.{add-one}
 use native.Mathlib.Omega.{arith}
 use native.Mathlib.Decide.{ℕ_discrete}
-use lib.ListN.{length, replicate, get_or-replicate, length-replicate}
+use lib.ListN.{get_or, set, length, replicate, get_or-replicate, length-replicate}
 use lib.Dec.{eqb}
 use borrow.Author.Tests.{eq-eqb, ne_eqb}
 use Rattle.rules.specs.Fold.{pick, at, put, sum_to}
 use Rattle.theory.proofs.Logic.{by_test}
+use Rattle.arrays.proofs.Entries.{at_small, at-index, put-index}
 use Rattle.theory.proofs.Fold.{at-put-same, at-put-other, length-put, sum_to-bound}
 
 module _ (minutes places : List ℕ) (m : ℕ) where
@@ -42,7 +44,7 @@ module _ (minutes places : List ℕ) (m : ℕ) where
   share-off i b n = rw (ne_eqb (at places b) i n)
 
   -- a job on machine k adds to its entry
-  pub loaded-add : (b k : ℕ) (loads : List ℕ) → at places (suc b) ≡ k → 0 < k → k ≤ m → m ≤ 24
+  loaded-add : (b k : ℕ) (loads : List ℕ) → at places (suc b) ≡ k → 0 < k → k ≤ m → m ≤ 24
       → Loaded b loads → Loaded (suc b) (put loads k (at loads k + at minutes (suc b)))
   unfolding sum_to
   loaded-add b k loads e l u h r = record {
@@ -60,22 +62,30 @@ module _ (minutes places : List ℕ) (m : ℕ) where
     past = λ i i0 im. at-put-other loads k i _ (λ z. omega arith) ∙ r.past i i0 im;
   }
 
+  -- by index: the job at index b, of w minutes, whose place is the number p of a machine
+  pub loaded-enter : (b p : ℕ) (loads : List ℕ) (w : ℕ) → p ≡ get_or places b 0 → w ≡ get_or minutes b 0 → 0 < p → p ≤ m → m ≤ 24 → Loaded b loads
+      → Loaded (b + 1) (set loads (p - 1) (get_or loads (p - 1) 0 + w))
+  loaded-enter b p loads w z e l u h r =
+      rw (add-one b, e, ← put-index loads p (get_or loads (p - 1) 0 + get_or minutes b 0) l, ← at-index loads p l) (loaded-add b p loads (sym z) l u h r)
+
   -- a job on no machine adds nothing
   pub loaded-skip : (b : ℕ) (loads : List ℕ) → ((i : ℕ) → 0 < i → i ≤ m → at places (suc b) ≢ i)
-      → Loaded b loads → Loaded (suc b) loads
+      → Loaded b loads → Loaded (b + 1) loads
   unfolding sum_to
-  loaded-skip b loads n r = record {
+  loaded-skip b loads n r = rw (add-one b) record {
     long = r.long;
     on = λ i l u. omega (arith, r.on i l u, share-off i (suc b) (n i l u));
     past = r.past;
   }
 
-  pub loaded-bound : (b k c : ℕ) (loads : List ℕ) → 0 < k → k ≤ m → ((j : ℕ) → at minutes j ≤ c) → Loaded b loads → at loads k ≤ b * c
+  -- each load so far is at most that of b jobs of c minutes
+  pub loaded-bound : (b k c : ℕ) (loads : List ℕ) → 0 < k → k ≤ m → ((j : ℕ) → get_or minutes j 0 ≤ c)
+      → Loaded b loads → get_or loads (k - 1) 0 ≤ b * c
   loaded-bound b k c loads l u h r =
-      omega (arith, r.on k l u, sum_to-bound b (λ j. minutes_on k j) c (λ j p q. small j))
+      omega (arith, at-index loads k l, r.on k l u, sum_to-bound b (λ j. minutes_on k j) c (λ j p q. small j))
     where
       small : (j : ℕ) → minutes_on k j ≤ c
       small j =
           by_test (eqb (at places j) k)
-          (λ t. rw t (h j))
+          (λ t. rw t (at_small minutes c h j))
           (λ t. rw t (omega arith))

@@ -1,2 +1,4 @@
+pub mod Found
+pub mod Jobs
 pub mod Reads
 pub mod Sets

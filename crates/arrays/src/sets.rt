@@ -3,7 +3,7 @@ ghost use Rattle.std.specs.Prelude.{◌≡◌, suc, ◌+◌, ◌-◌, ◌<◌, �
 ghost use Rattle.rules.specs.Fold.{◌and◌, ◌or◌};
 ghost use Rattle.arrays.specs.Sets.{has, SetOf, SetsOf};
 
-use crate::JOBS;
+use crate::{JOBS, MACHINES};
 
 // The set `x` and machine `i`.
 pub fn with(x: u32, i: usize) -> u32
@@ -18,13 +18,11 @@ pub fn mask_at(eligible: &[u8], base: usize, m: usize) -> u32
     requires { (m ≤ 24) × (base + m ≤ length eligible.now) }
     ensures { SetOf (λ j. leb j m and eqb (get_or eligible.now (base + (j - 1)) 0) 1) result }
 {
-    let mut x: u32 = 0;
-    let mut j: usize = 0;
-    while j < m {
+    let mut x = 0;
+    for j in 0..m {
         if eligible[base + j] == 1 {
             x = with(x, j + 1);
         }
-        j += 1;
     }
     x
 }
@@ -34,13 +32,11 @@ pub fn masks_of(eligible: &[u8], n: usize, m: usize) -> [u32; JOBS]
     requires { (n ≤ 224) × (m ≤ 24) × (length eligible.now ≡ 5376) }
     ensures { SetsOf eligible.now m n result }
 {
-    let mut out = [0u32; JOBS];
-    let mut b: usize = 0;
-    while b < n {
-        out[b] = mask_at(eligible, b * 24, m);
-        b += 1;
+    let mut masks = [0u32; JOBS];
+    for b in 0..n {
+        masks[b] = mask_at(eligible, b * MACHINES, m);
     }
-    out
+    masks
 }
 
 // The machine at index i is in the set.

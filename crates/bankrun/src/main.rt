@@ -12,30 +12,30 @@
 
 use files::{JOURNAL, SHEET, buffer, put, read_both, refuse};
 use journal::print::print;
+use journal::run::Refused;
+use text::Hosted;
 
 fn main(rt: HostRuntime) {
     let mut out = rt.stdout();
     let mut err = rt.stderr();
     let mut sheet = [0u8; SHEET];
     let mut journal = buffer();
-    let read = read_both(
+    let Some(read) = read_both(
         &rt,
         &mut err,
         b"bankrun",
         b"usage: bankrun SHEET JOURNAL\n",
         &mut sheet,
         &mut journal,
-    );
-    if !read.good {
+    ) else {
         return;
-    }
-    let size = read.sheet;
-    let length = read.journal;
-    if length == JOURNAL {
-        refuse(&mut out, 19, 0);
+    };
+    if read.journal == JOURNAL {
+        let refused = Hosted::from(Refused::BadJournal(0));
+        refuse(&mut out, refused.refusal, 0);
         return;
     }
     let mut text = buffer();
-    let count = print(&sheet[..size], &journal[..length], &mut text);
+    let count = print(&sheet[..read.sheet], &journal[..read.journal], &mut text);
     put(&mut out, &mut err, b"bankrun", &text[..count]);
 }

@@ -12,20 +12,13 @@
 // A worklist of more than 262,143 bytes is refused whole, as 12 with row 0; what is wrong with the numbers comes before that.
 #![tactic(auto)]
 
-ghost use Rattle.std.specs.Prelude.{◌≡◌, ◌≤◌, length};
+ghost use Rattle.std.specs.Prelude.{◌≡◌, ◌≤◌, length, IfSome};
 
 use files::{JOURNAL, buffer, put, read_file, refuse};
 use std::env::{Env, FillError};
 use std::io::Write;
 use worklist::row::number_at;
 use written::take::take_into;
-
-// A number among the arguments, and whether it is one.
-#[derive(Clone, Copy)]
-struct Argument {
-    good: bool,
-    value: u32,
-}
 
 // How many arguments there are, the program's own name among them.
 fn arg_count<R: Env>(rt: &R) -> usize {
@@ -39,47 +32,34 @@ fn arg_count<R: Env>(rt: &R) -> usize {
 }
 
 // Argument i, a number as a worklist has it. One that is missing or very long is none.
-fn number_in<R: Env>(rt: &R, i: usize) -> Argument {
+fn number_in<R: Env>(rt: &R, i: usize) -> Option<u32> {
     let mut text = [0u8; 4096];
-    let length = match rt.arg(i, &mut text) {
-        Ok(length) => length,
-        Err(_) => 0,
-    };
-    let n = number_at(&text[..length], 0);
-    Argument {
-        good: n.good && n.next == length,
-        value: n.value,
-    }
+    let length = rt.arg(i, &mut text).ok()?;
+    let (value, rest) = number_at(&text[..length])?;
+    rest.is_empty().then_some(value)
 }
 
-// The calibrations, and whether all of them are numbers.
+// The calibrations that are kept, and how many they are. Memory is fixed, so an array and its count stand side by side.
 #[derive(Clone, Copy)]
 struct Given {
-    good: bool,
     count: usize,
     list: [u32; 25],
 }
 
-// The arguments from number 3 on. 25 are kept: no bank has so many.
-fn calibrations<R: Env>(rt: &R, end: usize) -> Given
-    ensures { (result.count ≤ 25) × (25 ≡ length result.list) }
+// The arguments from number 3 on, where all are numbers. 25 are kept: no bank has so many.
+fn calibrations<R: Env>(rt: &R, end: usize) -> Option<Given>
+    ensures { IfSome result (λ given. (given.count ≤ 25) × (25 ≡ length given.list)) }
 {
     let mut list = [0u32; 25];
     let mut count = 0;
-    let mut good = true;
-    let mut i = 3;
-    while i < end {
-        let a = number_in(rt, i);
-        if !a.good {
-            good = false;
-        }
-        if count < 25 {
-            list[count] = a.value;
+    for i in 3..end {
+        let value = number_in(rt, i)?;
+        if count < list.len() {
+            list[count] = value;
             count += 1;
         }
-        i += 1;
     }
-    Given { good, count, list }
+    Some(Given { count, list })
 }
 
 // How many bytes of a worklist are judged: none of one that fills the buffer, which is refused like an empty one.
@@ -87,46 +67,37 @@ fn fitting(size: usize) -> usize
     requires { size ≤ 262144 }
     ensures { (result ≤ size) × (result ≤ 262143) }
 {
-    if size == JOURNAL {
-        return 0;
-    }
-    size
+    if size == JOURNAL { 0 } else { size }
 }
 
 fn main(rt: HostRuntime) {
     let mut out = rt.stdout();
     let mut err = rt.stderr();
     let usage = b"usage: banktake WORKLIST INSTRUMENTS CALIBRATION.. > SHEET\n";
-    let instruments = number_in(&rt, 2);
-    let given = calibrations(&rt, arg_count(&rt));
-    if !(instruments.good && given.good) {
+    let (Some(instruments), Some(given)) = (number_in(&rt, 2), calibrations(&rt, arg_count(&rt)))
+    else {
         let _ = err.write_all(usage);
         return;
-    }
+    };
     let mut worklist = buffer();
-    let read = read_file(&rt, &mut err, b"banktake", usage, 1, &mut worklist);
-    if !read.good {
+    let Some(read) = read_file(&rt, &mut err, b"banktake", usage, 1, &mut worklist) else {
         return;
-    }
-    let length = fitting(read.length);
-    let count = given.count;
-    let list = given.list;
+    };
     let mut text = [0u8; 33958];
-    let r = take_into(
-        instruments.value,
-        &list[..count],
-        &worklist[..length],
+    let taken = take_into(
+        instruments,
+        &given.list[..given.count],
+        &worklist[..fitting(read)],
         &mut text,
     );
-    let refusal = r.refusal;
-    if read.length == JOURNAL {
-        refuse(&mut err, refusal, 0);
+    if taken.refusal != 0 {
+        let row = if read == JOURNAL {
+            0
+        } else {
+            taken.line as u32
+        };
+        refuse(&mut err, taken.refusal, row);
         return;
     }
-    if refusal != 0 {
-        refuse(&mut err, refusal, r.line as u32);
-        return;
-    }
-    let size = r.length;
-    put(&mut out, &mut err, b"banktake", &text[..size]);
+    put(&mut out, &mut err, b"banktake", &text[..taken.length]);
 }

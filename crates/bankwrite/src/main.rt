@@ -13,6 +13,8 @@
 #![tactic(auto)]
 
 use files::{JOURNAL, SHEET, buffer, put, read_both, refuse};
+use journal::run::Refused;
+use text::Hosted;
 use written::write::write_into;
 
 fn main(rt: HostRuntime) {
@@ -20,30 +22,26 @@ fn main(rt: HostRuntime) {
     let mut err = rt.stderr();
     let mut sheet = [0u8; SHEET];
     let mut journal = buffer();
-    let read = read_both(
+    let Some(read) = read_both(
         &rt,
         &mut err,
         b"bankwrite",
         b"usage: bankwrite SHEET JOURNAL > NEWSHEET\n",
         &mut sheet,
         &mut journal,
-    );
-    if !read.good {
+    ) else {
         return;
-    }
-    let size = read.sheet;
-    let length = read.journal;
-    if length == JOURNAL {
-        refuse(&mut err, 19, 0);
+    };
+    if read.journal == JOURNAL {
+        let refused = Hosted::from(Refused::BadJournal(0));
+        refuse(&mut err, refused.refusal, 0);
         return;
     }
     let mut text = [0u8; 33958];
-    let r = write_into(&sheet[..size], &journal[..length], &mut text);
-    let refusal = r.refusal;
-    if refusal != 0 {
-        refuse(&mut err, refusal, r.line as u32);
+    let r = write_into(&sheet[..read.sheet], &journal[..read.journal], &mut text);
+    if r.refusal != 0 {
+        refuse(&mut err, r.refusal, r.line as u32);
         return;
     }
-    let count = r.length;
-    put(&mut out, &mut err, b"bankwrite", &text[..count]);
+    put(&mut out, &mut err, b"bankwrite", &text[..r.length]);
 }

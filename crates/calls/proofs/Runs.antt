@@ -1,29 +1,25 @@
 -- Demand 3: from any sheet file and any worklist without a fault, through any list of calls.
 use Prim.Native.Nat.{ℕ}
-use mathlib.Core.Path.{◌≡◌, refl, ap, ◌∙◌}
+use mathlib.Core.Path.{◌≡◌, refl, sym, ap, ◌∙◌}
 use mathlib.Core.Bool.{Bool, true, false}
 use mathlib.Core.List.{List, map}
 use lib.ListN.{length}
 use Rattle.rules.specs.Sheet.{Book, sound}
 use Rattle.rules.specs.Read.{accepted}
-use Rattle.rules.specs.Read as D
-use Rattle.rules.specs.Run.{Call, answer, next, book_after, answers, answer_numbers, roomy, balance_answer, settle_answer}
+use Rattle.rules.specs.Run.{Call, answer, next, book_after, answers, answer_numbers, roomy, balance_answer, settle_answer, balance_book, settle_book, with_places}
+use Rattle.rules.specs.Fold.{pick}
 use Rattle.rules.specs.Run as R
 use Rattle.theory.proofs.Sound.{read-sound}
 use Rattle.theory.proofs.Taken.{taken-sound}
 use Rattle.theory.proofs.Runs.{sound-claims, next-sound}
 use Rattle.sheet.specs.declared.Sheet.{Sheet}
-use Rattle.sheet.specs.declared.Edited.{Edited}
-use Rattle.sheet.specs.declared.Reading.{Reading}
+use Rattle.std.specs.Prelude.{Ok}
 use Rattle.sheet.specs.Represent.{sheet_of, book_of}
-use Rattle.sheet.specs.Answers.{read_as, ReadAnswered}
-use Rattle.sheet.specs.declared.Refusal.TheVariants.{Nothing}
+use Rattle.sheet.specs.Answers.{Edited, read_as, ReadAnswered}
 use Rattle.sheet.proofs.Accepted.{or-accepted}
 use Rattle.sheet.proofs.Answered.{edit-next}
 use Rattle.sheet.proofs.Represent.{book-sheet, sheet-sound}
-use Rattle.calls.specs.declared.BalanceReply.{BalanceReply}
-use Rattle.calls.specs.declared.SettleReply.{SettleReply}
-use Rattle.calls.specs.Lent.{balance_reply, settle_reply, balance_as, settle_as}
+use Rattle.calls.specs.Lent.{balance_reply, settle_reply, balance_as, settle_as, balance_left, settle_left}
 use Rattle.calls.specs.Runs.{Link, editing, reviewing, trying, balancing, settling, Reply, reply_numbers, Chain, link, chain_numbers, Source, file, worklist, says, HoldsBook, Holds, call, Whole}
 use Rattle.calls.specs.Runs as S
 
@@ -39,19 +35,21 @@ stands k s v e = record {
 
 -- ---- the sheet after a call
 
-pub balance-next : (k : Book) (c : ℕ) → (balance_reply k c).sheet ≡ sheet_of (next k (R.balancing c))
-unfolding balance_reply answer
+pub balance-next : (k : Book) (c : ℕ) → balance_left (sheet_of k) (balance_reply k c) ≡ sheet_of (next k (R.balancing c))
+unfolding balance_reply answer next
 balance-next k c = from (roomy k c)
   where
-    from : (t : Bool) → (balance_as (balance_answer t k) (sheet_of (next k (R.balancing c)))).sheet ≡ sheet_of (next k (R.balancing c))
+    from : (t : Bool) → balance_left (sheet_of k) (balance_as (balance_answer t k) (sheet_of (pick t (with_places k (balance_book k).assignment) k)))
+        ≡ sheet_of (pick t (with_places k (balance_book k).assignment) k)
     from true = refl
     from false = refl
 
-pub settle-next : (k : Book) (c : ℕ) → (settle_reply k c).sheet ≡ sheet_of (next k (R.settling c))
-unfolding settle_reply answer
+pub settle-next : (k : Book) (c : ℕ) → settle_left (sheet_of k) (settle_reply k c) ≡ sheet_of (next k (R.settling c))
+unfolding settle_reply answer next
 settle-next k c = from (roomy k c)
   where
-    from : (t : Bool) → (settle_as (settle_answer t k) (sheet_of (next k (R.settling c)))).sheet ≡ sheet_of (next k (R.settling c))
+    from : (t : Bool) → settle_left (sheet_of k) (settle_as (settle_answer t k) (sheet_of (pick t (with_places k (settle_book k).assignment) k)))
+        ≡ sheet_of (pick t (with_places k (settle_book k).assignment) k)
     from true = refl
     from false = refl
 
@@ -69,18 +67,20 @@ unfolding next
 tried-next k a = refl
 
 pub link-answer : (k : Book) {s t : Sheet} {c : Call} {r : Reply} → book_of s ≡ k → Link s c r t → reply_numbers k r ≡ answer_numbers (answer k c)
-link-answer k b (editing s e r f) = rw b at f.numbers
+link-answer k b (editing s e r t f) = rw b at f.numbers
 link-answer k b (reviewing s r f) = rw b at f.numbers
 link-answer k b (trying s a r f) = rw b at f.numbers
 link-answer k b (balancing s before r after f) = rw b at f.numbers
 link-answer k b (settling s before r after f) = rw b at f.numbers
 
 pub link-next : (k : Book) {s t : Sheet} {c : Call} {r : Reply} → s ≡ sheet_of k → book_of s ≡ k → Link s c r t → t ≡ sheet_of (next k c)
-link-next k q b (editing s e r f) = ap (λ (x : Edited). x.sheet) f.is ∙ edit-next k s e b q
+link-next k q b (editing s e r t f) = ap (λ (x : Edited). x.sheet) f.is ∙ edit-next k s e b q
 link-next k q b (reviewing s r f) = still k R.reviewing s q (reviewed-next k)
 link-next k q b (trying s a r f) = still k (R.trying a) s q (tried-next k a)
-link-next k q b (balancing s before r after f) = ap (λ (x : BalanceReply). x.sheet) f.is ∙ rw b (balance-next k (length before))
-link-next k q b (settling s before r after f) = ap (λ (x : SettleReply). x.sheet) f.is ∙ rw b (settle-next k (length before))
+link-next k q b (balancing s before r after f) =
+    ap (balance_left s) f.is ∙ rw (b, q) (balance-next k (length before))
+link-next k q b (settling s before r after f) =
+    ap (settle_left s) f.is ∙ rw (b, q) (settle-next k (length before))
 
 pub chain-holds : (k : Book) {s u : Sheet} {cs : List Call} {rs : List Reply} → sound k ≡ true → s ≡ sheet_of k → Chain s cs rs u → Holds k s cs rs u
 chain-holds k {s} v e S.end = S.end (stands k s v e)
@@ -108,24 +108,21 @@ pub said-sound : (o : Source) (k : Book) → says o ≡ accepted k → sound k �
 said-sound (file s) k e = read-sound s k e
 said-sound (worklist m l s) k e = taken-sound m l s k e
 
-said-sheet : (o : D.Reading) (k : Book) → o ≡ accepted k → (read_as o).sheet ≡ sheet_of k
-said-sheet o k e = ap (λ (x : D.Reading). (read_as x).sheet) e
-
 -- any sheet file and any worklist that is not refused, and any list of calls from the sheet that it gives
-pub run_holds : (o : Source) (r : Reading) → ReadAnswered (says o) r → r.refusal ≡ Nothing
-    → {cs : List Call} {rs : List Reply} {u : Sheet} → Chain r.sheet cs rs u → Whole o r.sheet cs rs u
-run_holds o r e q {cs} {rs} {u} h =
-    let k = book_of r.sheet in
-    let f = (or-accepted (says o) r (said-sound o) e.is q).book in
-    let v = chain-holds k (said-sound o k f) (ap (λ (x : Reading). x.sheet) e.is ∙ said-sheet (says o) k f) h in
+pub run_holds : (o : Source) (s : Sheet) → ReadAnswered (says o) (Ok s)
+    → {cs : List Call} {rs : List Reply} {u : Sheet} → Chain s cs rs u → Whole o s cs rs u
+run_holds o s e {cs} {rs} {u} h =
+    let k = book_of s in
+    let w = or-accepted (says o) s (said-sound o) e.is in
+    let v = chain-holds k (said-sound o k w.book) (sym w.sound.arrays) h in
     record {
       book = k;
-      said = f;
+      said = w.book;
       holds = v;
       sheet = chain-sheet k v;
       replies = chain-answers k v;
     }
 
 -- none without a fault is refused
-pub fault-free : (o : Source) (k : Book) → says o ≡ accepted k → (read_as (says o)).refusal ≡ Nothing
-fault-free o k e = ap (λ (x : D.Reading). (read_as x).refusal) e
+pub fault-free : (o : Source) (k : Book) → says o ≡ accepted k → read_as (says o) ≡ Ok (sheet_of k)
+fault-free o k e = ap read_as e

@@ -1,6 +1,6 @@
 -- Lists of calls on sheets (document 01, "Runs"): what the functions return, each call as a link from sheet to sheet, and what is
 -- claimed of a whole list.
-use Rattle.std.specs.Prelude.{ℕ, ◌≡◌, List, [], ◌∷◌, ◌++◌, map, length}
+use Rattle.std.specs.Prelude.{ℕ, ◌≡◌, List, [], ◌∷◌, ◌++◌, map, length, Result}
 use Rattle.rules.specs.Sheet.{Book}
 use Rattle.rules.specs.Edit.{Edit}
 use Rattle.rules.specs.Read.{Reading, accepted, read}
@@ -11,44 +11,45 @@ use Rattle.rules.specs.Interleave.{Interleaving, turns, answers_by_turns}
 use Rattle.theory.proofs.Claims.{Claims}
 use Rattle.theory.proofs.Interleave.{in_order, other-order}
 use Rattle.sheet.specs.declared.Sheet.{Sheet}
-use Rattle.sheet.specs.declared.Edited.{Edited}
+use Rattle.sheet.specs.declared.Refusal.{Refusal}
 use Rattle.sheet.specs.Represent.{Sound, sheet_of, book_of}
-use Rattle.sheet.specs.Answers.{number_of, EditAnswered}
+use Rattle.sheet.specs.Answers.{Edited, edit_numbers, EditAnswered}
 use Rattle.moves.specs.declared.Move.{Move}
 use Rattle.planner.specs.declared.Tried.{Tried}
 use Rattle.planner.specs.declared.Reviewed.{Reviewed}
 use Rattle.planner.specs.Calls.{review_numbers, trial_numbers, ReviewAnswered, TrialAnswered}
-use Rattle.calls.specs.declared.BalanceReply.{BalanceReply}
-use Rattle.calls.specs.declared.SettleReply.{SettleReply}
-use Rattle.calls.specs.Lent.{balance_numbers, settle_numbers, BalanceAnswered, SettleAnswered}
+use Rattle.planner.specs.declared.Balanced.{Balanced}
+use Rattle.planner.specs.declared.Settled.{Settled}
+use Rattle.calls.specs.declared.Reply as C
+use Rattle.calls.specs.Lent.{balance_numbers, settle_numbers, balance_left, settle_left, BalanceAnswered, SettleAnswered}
 
 -- what a call's function returns, and, of balance and settle, what the lent list holds afterwards
 pub data Reply : Type 0 where
-  edited : Edited → Reply
+  edited : Result Unit Refusal → Reply
   reviewed : Reviewed → Reply
-  tried : Tried → Reply
-  balanced : BalanceReply → List Move → Reply
-  settled : SettleReply → List Move → Reply
+  tried : Result Tried Refusal → Reply
+  balanced : Result (C.Reply Balanced) Refusal → List Move → Reply
+  settled : Result (C.Reply Settled) Refusal → List Move → Reply
 
 -- a reply as document 01's numbers: the refusal first, 0 for none, and then its values; k is the book before the call
 abbrev pub reply_numbers : Book → Reply → List ℕ
-reply_numbers k (edited r) = number_of r.refusal ∷ []
+reply_numbers k (edited r) = edit_numbers r
 reply_numbers k (reviewed r) = review_numbers k r
 reply_numbers k (tried r) = trial_numbers k r
 reply_numbers k (balanced r list) = balance_numbers r list
 reply_numbers k (settled r list) = settle_numbers r list
 
 -- A call on a sheet, its reply, and the sheet that the next call gets: the reply is what the function promises, word for word, and
--- the next sheet is the one in it; review and a trial return none, so it is the same. The call of balance or settle has the number of
+-- the next sheet is the one that an edit leaves or a reply holds; review, a trial and a refusal leave it as it is. The call of balance or settle has the number of
 -- entries of the list lent to it.
 pub data Link : Sheet → Call → Reply → Sheet → Type 0 where
-  editing : (s : Sheet) (e : Edit) (r : Edited) → EditAnswered s e r → Link s (R.editing e) (edited r) r.sheet
+  editing : (s : Sheet) (e : Edit) (r : Result Unit Refusal) (t : Sheet) → EditAnswered s e r t → Link s (R.editing e) (edited r) t
   reviewing : (s : Sheet) (r : Reviewed) → ReviewAnswered (book_of s) r → Link s R.reviewing (reviewed r) s
-  trying : (s : Sheet) (a : ℕ) (r : Tried) → TrialAnswered (book_of s) a r → Link s (R.trying a) (tried r) s
-  balancing : (s : Sheet) (before : List Move) (r : BalanceReply) (after : List Move) → BalanceAnswered (book_of s) before r after
-      → Link s (R.balancing (length before)) (balanced r after) r.sheet
-  settling : (s : Sheet) (before : List Move) (r : SettleReply) (after : List Move) → SettleAnswered (book_of s) before r after
-      → Link s (R.settling (length before)) (settled r after) r.sheet
+  trying : (s : Sheet) (a : ℕ) (r : Result Tried Refusal) → TrialAnswered (book_of s) a r → Link s (R.trying a) (tried r) s
+  balancing : (s : Sheet) (before : List Move) (r : Result (C.Reply Balanced) Refusal) (after : List Move)
+      → BalanceAnswered (book_of s) before r after → Link s (R.balancing (length before)) (balanced r after) (balance_left s r)
+  settling : (s : Sheet) (before : List Move) (r : Result (C.Reply Settled) Refusal) (after : List Move)
+      → SettleAnswered (book_of s) before r after → Link s (R.settling (length before)) (settled r after) (settle_left s r)
 
 -- a list of calls from sheet to sheet
 pub data Chain : Sheet → List Call → List Reply → Sheet → Type 0 where
@@ -102,8 +103,8 @@ pub record Whole (source : Source) (s : Sheet) (cs : List Call) (rs : List Reply
 -- Two edits on one sheet. Where the first comes first they are answered a and b, and where the second does, from the same sheet again, b₂
 -- and a₂: each is refused alike or made both times, and the sheet after both is the same.
 pub record EitherOrder (a b b₂ a₂ : Edited) : Type 0 where
-  pub first : a₂.refusal ≡ a.refusal
-  pub second : b₂.refusal ≡ b.refusal
+  pub first : a₂.answer ≡ a.answer
+  pub second : b₂.answer ≡ b.answer
   pub sheet : a₂.sheet ≡ b.sheet
 
 -- A run in which xs and ys stand interleaved, after cs and before zs. The sheet at the end is that of the one list and then the other, and so

@@ -1,111 +1,63 @@
 // Balance and settle for a caller whose list has so many entries: the reply, and the change from which the list is filled.
+ghost use Rattle.rules.specs.Run.{answer, balancing, settling};
 ghost use Rattle.sheet.specs.Represent.{Sound, book_of};
-ghost use Rattle.calls.specs.Lent.{BalancingIs, SettlingIs};
+ghost use Rattle.calls.specs.Lent.{balance_reply, settle_reply, PlanningIs};
 
-use crate::{BalanceReply, SettleReply};
+use crate::Reply;
 use moves::{Change, count};
 use planner::calls::{balance, settle};
+use planner::{Balanced, Settled};
 use sheet::{Refusal, Sheet};
 
 #[derive(Clone, Copy)]
-pub struct Balancing {
-    pub reply: BalanceReply,
+pub struct Planning<P> {
+    pub reply: Reply<P>,
     pub change: Change,
 }
 
-#[derive(Clone, Copy)]
-pub struct Settling {
-    pub reply: SettleReply,
-    pub change: Change,
-}
-
-// A list with fewer entries than the sheet has batches is refused, and there is no change.
-pub fn balance_for(sheet: Sheet, entries: usize) -> Balancing
+// A list with fewer entries than the sheet has batches is refused.
+pub fn balance_for(sheet: Sheet, entries: usize) -> Result<Planning<Balanced>, Refusal>
     requires { Sound sheet }
-    ensures { BalancingIs (book_of sheet) entries result }
+    ensures { PlanningIs (balance_reply (book_of sheet) entries) (answer (book_of sheet) (balancing entries)) entries result }
 {
     let n = sheet.batches();
-    let old = sheet.places();
     if entries < n {
-        return Balancing {
-            reply: BalanceReply {
-                refusal: Refusal::BufferShort,
-                makespan: 0,
-                bound: 0,
-                level: 0,
-                lifts: 0,
-                pushes: 0,
-                size: 0,
-                group: [0u8; 24],
-                records: 0,
-                sheet,
-            },
-            change: Change {
-                old,
-                new: old,
-                n: 0,
-            },
-        };
+        return Err(Refusal::BufferShort);
     }
-    let b = balance(sheet);
-    let after = b.sheet;
-    let new = after.places();
-    let group = b.group;
-    let change = Change { old, new, n };
+    let planned = balance(sheet);
+    let change = Change {
+        old: sheet.places(),
+        new: planned.sheet.places(),
+        n,
+    };
     let records = count(change);
-    Balancing {
-        reply: BalanceReply {
-            refusal: Refusal::Nothing,
-            makespan: b.makespan,
-            bound: b.bound,
-            level: b.level,
-            lifts: b.lifts,
-            pushes: b.pushes,
-            size: b.size,
-            group,
-            records,
-            sheet: after,
-        },
+    Ok(Planning {
+        reply: Reply { planned, records },
         change,
-    }
+    })
 }
 
-// The same for settle.
-pub fn settle_for(sheet: Sheet, entries: usize) -> Settling
+// The same for settle: a generic core needs a trait for the sheet in what the planner answers, and is longer than both.
+pub fn settle_for(sheet: Sheet, entries: usize) -> Result<Planning<Settled>, Refusal>
     requires { Sound sheet }
-    ensures { SettlingIs (book_of sheet) entries result }
+    ensures { PlanningIs (settle_reply (book_of sheet) entries) (answer (book_of sheet) (settling entries)) entries result }
 {
     let n = sheet.batches();
-    let old = sheet.places();
     if entries < n {
-        return Settling {
-            reply: SettleReply {
-                refusal: Refusal::BufferShort,
-                makespan: 0,
-                moves: 0,
-                records: 0,
-                sheet,
-            },
-            change: Change {
-                old,
-                new: old,
-                n: 0,
-            },
-        };
+        return Err(Refusal::BufferShort);
     }
-    let z = settle(sheet);
-    let end = z.sheet;
-    let new = end.places();
-    let change = Change { old, new, n };
+    let planned = settle(sheet);
+    let change = Change {
+        old: sheet.places(),
+        new: planned.sheet.places(),
+        n,
+    };
     let found = count(change);
-    Settling {
-        reply: SettleReply {
-            refusal: Refusal::Nothing,
-            makespan: z.makespan,
-            moves: z.moves,
+    Ok(Planning {
+        reply: Reply {
+            planned,
             records: found,
-            sheet: end,
         },
         change,
-    }
+    })
 }

@@ -7,14 +7,13 @@ use native.Mathlib.Nat.{pow-suc, pow-le-pow_right}
 use native.Mathlib.Numerals.{add-one}
 use native.Mathlib.Omega.{arith}
 use lib.Dec.{leb, eqb, lit<}
-use lib.ListN.{length, get_or, take, drop, length-drop, drop_of_length-le}
-use lib.Seq.{drop-cons, get_or-take, length-take-le, take_all}
+use lib.ListN.{length, get_or, take, drop, drop_of_length-le}
+use lib.Seq.{drop-cons}
 use borrow.Author.Tests.{leb-true, eqb-true, eqb-false, le-leb, lt-leb, ne_eqb}
 use Rattle.rules.specs.Fold.{◌and◌}
 use Rattle.rules.specs.Field.{value, blank, fault, is_digit, digits, lone_zero, blanks}
 use Rattle.rules.specs.Field as F
-use Rattle.rules.specs.Read.{blank_zero}
-use Rattle.theory.proofs.Logic.{by_test, and_left, and_right, and-mk}
+use Rattle.theory.proofs.Logic.{by_test, and_left, and_right, and-mk, and-no-left, and-no-right}
 use Rattle.fields.specs.declared.Field.{Field}
 use Rattle.fields.specs.declared.Field.TheVariants.{Value, Blank, Fault}
 use Rattle.fields.specs.Columns.{coded_field, below, digit_after, column_after}
@@ -25,12 +24,10 @@ pub digit-is : (b : ℕ) → 48 ≤ b → b ≤ 57 → is_digit b ≡ true
 digit-is b l u = and-mk _ _ (le-leb 48 b l) (le-leb b 57 u)
 
 pub digit_low : (b : ℕ) → b < 48 → is_digit b ≡ false
-unfolding ◌and◌
-digit_low b h = rw (lt-leb 48 b h)
+digit_low b h = and-no-left _ _ (lt-leb 48 b h)
 
 pub digit-high : (b : ℕ) → 57 < b → is_digit b ≡ false
-unfolding ◌and◌
-digit-high b h = rw (le-leb 48 b (omega arith), lt-leb b 57 h)
+digit-high b h = and-no-right (leb 48 b) _ (lt-leb b 57 h)
 
 -- ---- the value of i digits is below 10 ^ i
 
@@ -92,31 +89,9 @@ column-first Fault b l = refl
 
 -- ---- the columns of the six at the front of s, from i on
 
-module _ (s : List ℕ) (six : 6 ≤ length s) where
-  pub column-more : (f : Field) (i : ℕ) → i < 6 → field_after f (drop i (take 6 s)) ≡ field_after (column_after f (get_or s i 0)) (drop (i + 1) (take 6 s))
-  column-more f i h =
-      let n : i < length (take 6 s) = omega (arith, length-take-le 6 s six) in
-      rw (drop-cons (take 6 s) i 0 n, get_or-take 6 s i 0 h) (column-first f (get_or s i 0) (drop (suc i) (take 6 s)) ∙ rw add-one)
+module _ (s : List ℕ) (f : Field) (i : ℕ) where
+  pub column-more : i < length (take 6 s) → field_after f (drop i (take 6 s)) ≡ field_after (column_after f (get_or (take 6 s) i 0)) (drop (i + 1) (take 6 s))
+  column-more h = rw (drop-cons (take 6 s) i 0 h) (column-first f (get_or (take 6 s) i 0) (drop (suc i) (take 6 s)) ∙ rw add-one)
 
-  pub columns-done : (f : Field) (i : ℕ) → 6 ≤ i → f ≡ coded_field (field_after f (drop i (take 6 s)))
-  columns-done f i h = field_end f ∙ rw (drop_of_length-le (take 6 s) {i = i} (omega (arith, length-take-le 6 s six)))
-
--- ---- a part of the bytes
-
--- from a place to the end
-pub part-from : (s : List ℕ) (at : ℕ) → take (length s - at) (drop at s) ≡ drop at s
-part-from s at = take_all (length s - at) (drop at s) (simp length-drop (omega arith))
-
--- ---- a place
-
--- a blank one is 0
-pub place-blank : (f : Field) (g : F.Field) → f ≡ coded_field g → f ≡ Blank → Value 0 ≡ coded_field (blank_zero g)
-place-blank f (value v) d e = absurd (let z : ◌≡◌ {A = ℕ} 0 1 = cc in omega arith)
-place-blank f blank d e = refl
-place-blank f fault d e = absurd (let z : ◌≡◌ {A = ℕ} 0 1 = cc in omega arith)
-
--- any other stays
-pub place_other : (f : Field) (g : F.Field) → f ≡ coded_field g → (f ≡ Blank → ⊥) → f ≡ coded_field (blank_zero g)
-place_other f (value v) d k = d
-place_other f blank d k = absurd (k d)
-place_other f fault d k = d
+  pub columns-done : length (take 6 s) ≤ i → f ≡ coded_field (field_after f (drop i (take 6 s)))
+  columns-done h = field_end f ∙ rw (drop_of_length-le (take 6 s) {i = i} h)

@@ -6,8 +6,9 @@ ghost use Rattle.rules.specs.Field.{field};
 ghost use Rattle.rules.specs.Read.{blank_zero};
 ghost use Rattle.fields.specs.Columns.{coded_field, below, digit_after, column_after, ends_line};
 
-// What a field gives: its number, blank where all its columns are, or the fault that is refusal 1.
-#[derive(Clone, Copy)]
+// What a field gives: its number, blank where all its columns are, or the fault that is refusal 1. These are a document's three answers, and
+// whether a blank is a fault is the caller's to say, so it is no Option and no Result.
+#[derive(Clone, Copy, Debug, PartialEq, Eq)]
 pub enum Field {
     Value(u32),
     Blank,
@@ -19,13 +20,10 @@ fn with_digit(v: u32, b: u8) -> Field
     requires { v < 100000 }
     ensures { result ≡ digit_after v b }
 {
-    if b < b'0' {
-        return Field::Fault;
+    match b {
+        b'0'..=b'9' => Field::Value(10 * v + u32::from(b - b'0')),
+        _ => Field::Fault,
     }
-    if b'9' < b {
-        return Field::Fault;
-    }
-    Field::Value(10 * v + (b - b'0') as u32)
 }
 
 // What columns give, the last of which is b, where those before it give f. A 0 in front stands alone.
@@ -34,19 +32,10 @@ fn with_column(f: Field, b: u8) -> Field
     ensures { result ≡ column_after f b }
 {
     match f {
-        Field::Value(v) => {
-            if v == 0 {
-                return Field::Fault;
-            }
-            with_digit(v, b)
-        }
-        Field::Blank => {
-            if b == b' ' {
-                return Field::Blank;
-            }
-            with_digit(0, b)
-        }
-        Field::Fault => Field::Fault,
+        Field::Value(0) | Field::Fault => Field::Fault,
+        Field::Value(v) => with_digit(v, b),
+        Field::Blank if b == b' ' => Field::Blank,
+        Field::Blank => with_digit(0, b),
     }
 }
 
@@ -58,10 +47,8 @@ fn first_field(s: &[u8]) -> Field
         return Field::Fault;
     }
     let mut f = Field::Blank;
-    let mut i = 0;
-    while i < 6 {
-        f = with_column(f, s[i]);
-        i += 1;
+    for b in &s[..6] {
+        f = with_column(f, *b);
     }
     f
 }
@@ -76,23 +63,19 @@ pub fn field_at(s: &[u8], at: usize) -> Field
     first_field(&s[at..])
 }
 
-// The place at at: a blank one is 0, none given.
+// The place at at: a blank one is 0, which the document has for none given, written or not.
 pub fn place_at(s: &[u8], at: usize) -> Field
     ensures { result ≡ coded_field (blank_zero (field (drop at s.now))) }
 {
-    let f = field_at(s, at);
-    let Field::Blank = f else {
-        return f;
-    };
-    Field::Value(0)
+    match field_at(s, at) {
+        Field::Blank => Field::Value(0),
+        f => f,
+    }
 }
 
 // A line's LF stands at at.
 pub fn ends_at(s: &[u8], at: usize) -> bool
     ensures { result ≡ ends_line (drop at s.now) }
 {
-    if s.len() <= at {
-        return false;
-    }
-    s[at] == b'\n'
+    s.get(at) == Some(&b'\n')
 }

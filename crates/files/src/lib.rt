@@ -7,7 +7,7 @@
 // nobody is told.
 #![tactic(auto)]
 
-ghost use Rattle.std.specs.Prelude.{◌<◌, ◌≤◌, ◌≡◌, length};
+ghost use Rattle.std.specs.Prelude.{◌<◌, ◌≤◌, ◌≡◌, length, IfSome};
 
 use std::env::{Env, FillError};
 use std::io::{Read, Write};
@@ -21,17 +21,9 @@ pub const JOURNAL: usize = 262144;
 // Linux's number for an argument that is longer than any path.
 const NAME_TOO_LONG: i32 = 36;
 
-// How many bytes of a file were read, and whether it could be.
-#[derive(Clone, Copy)]
-pub struct File {
-    pub good: bool,
-    pub length: usize,
-}
-
-// How many bytes of each file were read, and whether both could be.
+// How many bytes of each file were read.
 #[derive(Clone, Copy)]
 pub struct Files {
-    pub good: bool,
     pub sheet: usize,
     pub journal: usize,
 }
@@ -41,17 +33,6 @@ pub fn buffer() -> [u8; JOURNAL]
     ensures { 262144 ≡ length result }
 {
     [0; JOURNAL]
-}
-
-// Neither file.
-fn none() -> Files
-    ensures { (result.sheet ≡ 0) × (result.journal ≡ 0) }
-{
-    Files {
-        good: false,
-        sheet: 0,
-        journal: 0,
-    }
 }
 
 // Writes a line: what failed, a colon and why. The library puts the system's number behind its words, and that is left out.
@@ -107,20 +88,17 @@ fn open<R: fs::Files + Env, E: Write>(
     }
 }
 
-// Reads until the text is full, the input ends or a read fails. Answers how many bytes it read.
+// Reads until the text is full, the input ends or a read fails. Answers how many bytes it read. Kept a `while`: how far a read gets is the
+// reader's, which no range or iterator gives.
 pub fn read_full<R: Read>(reader: &mut R, text: &mut [u8]) -> usize
     ensures { result ≤ length text.old }
 {
     let mut done = 0;
     while done < text.len() {
-        let count = match reader.read(&mut text[done..]) {
-            Ok(count) => count,
-            Err(_) => 0,
-        };
-        if count == 0 {
-            break;
+        match reader.read(&mut text[done..]) {
+            Ok(count) if count > 0 => done += count,
+            _ => break,
         }
-        done += count;
     }
     done
 }
@@ -137,18 +115,17 @@ fn is_readable<R: Read, E: Write>(err: &mut E, program: &[u8], file: &mut R) -> 
     }
 }
 
-// Reads an open file, as far as it fits. Where it cannot be read, says why on standard error.
+// Reads an open file, as far as it fits, and answers how many bytes it read. Where it cannot be read, says why on standard error.
 fn read_open<R: Read + Drop, E: Write>(
     err: &mut E,
     program: &[u8],
     mut file: R,
     text: &mut [u8],
-) -> File
-    ensures { result.length ≤ length text.old }
+) -> Option<usize>
+    ensures { IfSome result (λ count. count ≤ length text.old) }
 {
-    let length = read_full(&mut file, text);
-    let good = is_readable(err, program, &mut file);
-    File { good, length }
+    let count = read_full(&mut file, text);
+    is_readable(err, program, &mut file).then_some(count)
 }
 
 // Reads the file that argument i names, likewise.
@@ -159,19 +136,15 @@ pub fn read_file<R: fs::Files + Env, E: Write>(
     usage: &[u8],
     i: usize,
     text: &mut [u8],
-) -> File
-    ensures { result.length ≤ length text.old }
+) -> Option<usize>
+    ensures { IfSome result (λ count. count ≤ length text.old) }
 {
-    match open(rt, err, program, usage, i) {
-        Some(file) => read_open(err, program, file, text),
-        None => File {
-            good: false,
-            length: 0,
-        },
-    }
+    let file = open(rt, err, program, usage, i)?;
+    read_open(err, program, file, text)
 }
 
-// Reads the files that the first two arguments name. Both are opened before one is read.
+// Reads the files that the first two arguments name. Both are opened before one is read, and both are read before one that cannot be read
+// counts.
 pub fn read_both<R: fs::Files + Env, E: Write>(
     rt: &R,
     err: &mut E,
@@ -179,28 +152,18 @@ pub fn read_both<R: fs::Files + Env, E: Write>(
     usage: &[u8],
     sheet: &mut [u8],
     journal: &mut [u8],
-) -> Files
-    ensures { (result.sheet ≤ length sheet.old) × (result.journal ≤ length journal.old) }
+) -> Option<Files>
+    ensures { IfSome result
+        (λ files. (files.sheet ≤ length sheet.old) × (files.journal ≤ length journal.old)) }
 {
-    let Some(sheet_file) = open(rt, err, program, usage, 1) else {
-        return none();
-    };
-    let Some(journal_file) = open(rt, err, program, usage, 2) else {
-        return none();
-    };
-    let s = read_open(err, program, sheet_file, sheet);
-    let j = read_open(err, program, journal_file, journal);
-    if !s.good {
-        return none();
-    }
-    if !j.good {
-        return none();
-    }
-    Files {
-        good: true,
-        sheet: s.length,
-        journal: j.length,
-    }
+    let sheet_file = open(rt, err, program, usage, 1)?;
+    let journal_file = open(rt, err, program, usage, 2)?;
+    let sheet = read_open(err, program, sheet_file, sheet);
+    let journal = read_open(err, program, journal_file, journal);
+    Some(Files {
+        sheet: sheet?,
+        journal: journal?,
+    })
 }
 
 // Prints a text on `out`, the standard output; where that fails, says why.

@@ -3,84 +3,95 @@ use Prim.Native.Nat.{ℕ}
 use mathlib.Core.Path.{◌≡◌, refl, sym, ap, ◌∙◌}
 use mathlib.Core.Bool.{Bool, true, false}
 use mathlib.Core.List.{List}
-use native.Mathlib.Omega.{arith}
 use lib.Dec.{leb, eqb}
 use lib.ListN.{length}
-use Rattle.rules.specs.Fold.{pick, those_to}
+use Rattle.std.specs.Prelude.{Result, Ok, Err}
+use Rattle.rules.specs.Fold.{pick}
 use Rattle.rules.specs.Sheet.{Book}
 use Rattle.rules.specs.Read.{read, accepted, refused_at}
 use Rattle.rules.specs.Refusal.{Refusal, buffer_short, number}
-use Rattle.rules.specs.Moves.{records}
 use Rattle.rules.specs.Rewrite.{written}
 use Rattle.rules.specs.Lent.{text, Hosted, into_buffer}
 use Rattle.rules.specs.Run.{Call, refused, answer, next}
 use Rattle.rules.specs.Filed.{Filed, left_due, filed, filed_with}
 use Rattle.theory.proofs.Logic.{by_test}
-use Rattle.sheet.specs.declared.Refusal.TheVariants.{BufferShort}
-use Rattle.sheet.specs.declared.Refusal.TheVariants as E
-use Rattle.sheet.proofs.Refusals.{coded_none}
-use Rattle.text.specs.declared.Hosted as D
-use Rattle.text.specs.Answer.{hosted_of}
-use Rattle.moves.specs.declared.Change.{Change}
-use Rattle.calls.specs.Lent.{ChangeIs}
+use Rattle.sheet.specs.declared.Fault.{Fault}
+use Rattle.sheet.specs.declared.Refusal as E
+use Rattle.sheet.specs.declared.Refusal.TheVariants.{Malformed, BadSize, BadLength, BadList, BadPlace, NoBatch, SheetFull, LevelAbove, BufferShort, BadCalibration, HasStarted, BadWorklist, BadOrder, BadJournal}
+use Rattle.sheet.specs.Answers.{number_of, hosted_as}
+
+-- no refusal has the number 0
+number-some : (e : E.Refusal) → number_of e ≡ 0 → ⊥
+number-some Malformed q = cc
+number-some BadSize q = cc
+number-some BadLength q = cc
+number-some BadList q = cc
+number-some BadPlace q = cc
+number-some NoBatch q = cc
+number-some SheetFull q = cc
+number-some LevelAbove q = cc
+number-some BufferShort q = cc
+number-some BadCalibration q = cc
+number-some HasStarted q = cc
+number-some BadWorklist q = cc
+number-some BadOrder q = cc
+number-some BadJournal q = cc
 
 -- ---- nothing is done: a refusal, and the buffer as it was
 
-pub record Nothing (buffer : List ℕ) (e j : ℕ) (f : Filed) : Type 0 where
-  pub hosted : f.hosted ≡ record { refusal = e; line = j; length = 0; buffer = buffer }
+pub record Nothing (buffer : List ℕ) (f : Fault) (d : Filed) : Type 0 where
+  pub hosted : d.hosted ≡ hosted_as (Err f) buffer
   pub refusal : Refusal
-  pub answer : f.answer ≡ refused refusal
-
-pub no_change : {f : Filed} {buffer : List ℕ} {e j : ℕ} (c : ℕ) (d : Change) → Nothing buffer e j f → d.n ≡ 0 → ChangeIs f.answer c d
-unfolding records those_to
-no_change c d h z = record { few = omega arith; room = omega arith; records = rw (z, h.answer) }
+  pub answer : d.answer ≡ refused refusal
 
 picked : (t : Bool) (e : Refusal) → (x : Refusal) × (pick t (refused buffer_short) (refused e) ≡ refused x)
 picked true e = (buffer_short, refl)
 picked false e = (e, refl)
 
+buffer-of : (r : Result ℕ Fault) (b : List ℕ) → (hosted_as r b).buffer ≡ b
+buffer-of (Ok n) b = refl
+buffer-of (Err f) b = refl
+
 module _ (s : List ℕ) (c : Call) (buffer : List ℕ) where
   -- the sheet is refused
-  pub not-read : (e : Refusal) (i j : ℕ) → read s ≡ refused_at e j → i ≡ number e → Nothing buffer i j (filed s c buffer)
+  pub not-read : (e : Refusal) (f : Fault) → read s ≡ refused_at e f.line → number_of f.refusal ≡ number e → Nothing buffer f (filed s c buffer)
   unfolding filed into_buffer
-  not-read e i j f g =
+  not-read e f r g =
       let x = picked (eqb (number e) 9) e in
-      rw (f, g) (record { hosted = refl; refusal = x.0; answer = x.1 })
+      rw r (record { hosted = rw g refl; refusal = x.0; answer = x.1 })
 
   module _ (k : Book) (e : read s ≡ accepted k) where
     -- the call is refused
-    pub not_made : answer k c ≡ refused buffer_short → Nothing buffer 9 0 (filed s c buffer)
+    pub not_made : (f : Fault) → answer k c ≡ refused buffer_short → number_of f.refusal ≡ 9 → f.line ≡ 0 → Nothing buffer f (filed s c buffer)
     unfolding filed into_buffer
-    not_made f = rw (e, f) (record { hosted = refl; refusal = buffer_short; answer = refl })
+    not_made f a n l = rw (e, a) (record { hosted = rw (n, l) refl; refusal = buffer_short; answer = refl })
 
     -- it is not, and the buffer gets the file, or is too short
-    module _ (made : left_due (answer k c) (written (next k c)) ≡ text (written (next k c))) (h : D.Hosted) (out : List ℕ)
-        (w : hosted_of h out ≡ into_buffer (text (written (next k c))) buffer) where
-      filed-as : filed s c buffer ≡ filed_with (hosted_of h out) (answer k c)
+    module _ (made : left_due (answer k c) (written (next k c)) ≡ text (written (next k c))) (r : Result ℕ Fault) (out : List ℕ)
+        (w : hosted_as r out ≡ into_buffer (text (written (next k c))) buffer) where
+      filed-as : filed s c buffer ≡ filed_with (hosted_as r out) (answer k c)
       unfolding filed
       filed-as =
           let a : filed s c buffer ≡ filed_with (into_buffer (text (written (next k c))) buffer) (answer k c) = rw (e, made) in
           a ∙ ap (λ (x : Hosted). filed_with x (answer k c)) (sym w)
 
       pub out-is : out ≡ (filed s c buffer).hosted.buffer
-      out-is = sym (ap (λ (x : Filed). x.hosted.buffer) filed-as)
+      out-is = sym (ap (λ (x : Filed). x.hosted.buffer) filed-as ∙ buffer-of r out)
 
-      pub not_written : (h.refusal ≡ 0 → ⊥) → Nothing buffer h.refusal h.line (filed s c buffer)
+    module _ (made : left_due (answer k c) (written (next k c)) ≡ text (written (next k c))) (out : List ℕ) where
+      pub not_written : (f : Fault) → hosted_as (Err f) out ≡ into_buffer (text (written (next k c))) buffer → Nothing buffer f (filed s c buffer)
       unfolding into_buffer
-      not_written n = by_test (leb (length (written (next k c))) (length buffer))
-          (λ t. absurd (n (ap (λ (x : Hosted). x.refusal) (rw t at w))))
-          (λ t. let q : hosted_of h out ≡ record { refusal = 9; line = 0; length = 0; buffer = buffer } = rw t at w in
-          let r = ap (λ (x : Hosted). x.refusal) q in
+      not_written f w = by_test (leb (length (written (next k c))) (length buffer))
+          (λ t. absurd (number-some f.refusal (ap (λ (x : Hosted). x.refusal) (rw t at w))))
+          (λ t. let q : hosted_as (Err f) out ≡ record { refusal = 9; line = 0; length = 0; buffer = buffer } = rw t at w in
+          let n = ap (λ (x : Hosted). x.refusal) q in
           let l = ap (λ (x : Hosted). x.line) q in
-          rw (filed-as, q, r, l) (record { hosted = refl; refusal = buffer_short; answer = refl }))
+          rw (filed-as made (Err f) out w, q) (record { hosted = rw (n, l) refl; refusal = buffer_short; answer = rw n refl }))
 
-      pub all_done : h.refusal ≡ 0 → filed s c buffer ≡ record { hosted = hosted_of h out; answer = answer k c }
-      all_done z = filed-as ∙ (rw z)
+      pub all_done : (n : ℕ) → hosted_as (Ok n) out ≡ into_buffer (text (written (next k c))) buffer
+          → filed s c buffer ≡ record { hosted = hosted_as (Ok n) out; answer = answer k c }
+      all_done n w = filed-as made (Ok n) out w
 
 -- the buffer afterwards
-pub left_alone : {f : Filed} {buffer : List ℕ} {e j : ℕ} → Nothing buffer e j f → buffer ≡ f.hosted.buffer
+pub left_alone : {d : Filed} {buffer : List ℕ} {f : Fault} → Nothing buffer f d → buffer ≡ d.hosted.buffer
 left_alone h = sym (ap (λ (x : Hosted). x.buffer) h.hosted)
-
--- 9 is a refusal
-pub short-some : BufferShort ≡ E.Nothing → ⊥
-short-some e = coded_none buffer_short e

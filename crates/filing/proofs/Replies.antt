@@ -4,6 +4,7 @@ use mathlib.Core.Path.{◌≡◌, refl, sym, ap, ◌∙◌}
 use mathlib.Core.Bool.{Bool, true, false}
 use mathlib.Core.List.{List, map}
 use lib.ListN.{length}
+use Rattle.std.specs.Prelude.{Result, Ok, Err}
 use Rattle.rules.specs.Lent.{at_front, into_buffer}
 use Rattle.rules.specs.Lent as L
 use Rattle.rules.specs.Sheet.{Book}
@@ -16,205 +17,225 @@ use Rattle.rules.specs.Run as R
 use Rattle.rules.specs.Filed.{Filed, filed}
 use Rattle.theory.proofs.Runs.{next-sound}
 use Rattle.sheet.specs.declared.Sheet.{Sheet}
-use Rattle.sheet.specs.declared.Refusal.TheVariants.{Nothing}
+use Rattle.sheet.specs.declared.Fault.{Fault}
+use Rattle.sheet.specs.declared.Refusal.{Refusal}
+use Rattle.sheet.specs.declared.Refusal.TheVariants.{BufferShort}
 use Rattle.sheet.specs.Represent.{Sound, sheet_of, book_of}
-use Rattle.sheet.specs.Answers.{number_of}
+use Rattle.sheet.specs.Answers.{number_of, hosted_as, fault}
 use Rattle.sheet.proofs.Represent.{book-sheet, sheet-sound}
-use Rattle.text.specs.declared.Hosted.{Hosted}
-use Rattle.text.specs.Answer.{hosted_of}
 use Rattle.moves.specs.declared.Move.{Move}
 use Rattle.moves.specs.declared.Change.{Change}
 use Rattle.moves.specs.Filled.{move_as}
-use Rattle.calls.specs.declared.BalanceReply.{BalanceReply}
-use Rattle.calls.specs.declared.SettleReply.{SettleReply}
-use Rattle.calls.specs.declared.cores.Balancing.{Balancing}
-use Rattle.calls.specs.declared.cores.Settling.{Settling}
-use Rattle.calls.specs.Lent.{balance_reply, settle_reply, balance_as, settle_as, ChangeIs, BalancingIs, SettlingIs}
+use Rattle.planner.specs.declared.Balanced.{Balanced}
+use Rattle.planner.specs.declared.Settled.{Settled}
+use Rattle.calls.specs.declared.Reply.{Reply}
+use Rattle.calls.specs.declared.cores.Planning.{Planning}
+use Rattle.calls.specs.Lent.{balance_reply, settle_reply, balance_as, settle_as, balance_left, settle_left, ChangeIs, PlanningIs}
 use Rattle.calls.proofs.Runs.{balance-next, settle-next}
-use Rattle.filing.specs.declared.BalanceFiling.{BalanceFiling}
-use Rattle.filing.specs.declared.SettleFiling.{SettleFiling}
-use Rattle.filing.specs.Filed.{no_balance, no_settle, BalanceIs, SettleIs, BalanceFilingIs, SettleFilingIs}
-use Rattle.filing.proofs.Cases as C
-use Rattle.filing.proofs.Cases.{no_change, left_alone, not_written, out-is, all_done}
+use Rattle.filing.specs.declared.Filing.{Filing}
+use Rattle.filing.specs.Filed.{balance_with, settle_with, filed_balance, filed_settle, BalanceIs, SettleIs, BalanceFilingIs, SettleFilingIs}
+use Rattle.filing.proofs.Cases.{Nothing, left_alone, not_written, out-is, all_done, not_made}
 
 -- a list of records that is filled from a change
 filled : {a : Answer} {c : ℕ} {d : Change} (before after : List Move) → ChangeIs a c d
     → after ≡ at_front (map move_as (records d.n d.old d.new)) before → after ≡ at_front (map move_as (R.records_in a)) before
 filled before after h e = rw h.records at e
 
--- ---- balance
-
-balance-either : (k : Book) (t : Bool) (s : Sheet) → ((balance_as (balance_answer t k) s).refusal ≡ Nothing → ⊥)
-    → (balance_answer t k ≡ refused buffer_short) × (number_of (balance_as (balance_answer t k) s).refusal ≡ 9)
-balance-either k true s n = absurd (n refl)
-balance-either k false s n = (refl, refl)
-
-balance-really : (k : Book) (t : Bool) (s : Sheet) → (balance_as (balance_answer t k) s).refusal ≡ Nothing
-    → balance_answer t k ≡ R.balanced (balance_book k) (records_to k (balance_book k).assignment)
-balance-really k true s e = refl
-balance-really k false s e = absurd (C.short-some e)
-
-module _ (s : Sheet) (v : Sound s) (c : ℕ) (r : Balancing) (e : BalancingIs (book_of s) c r) where
-  balance-sheet : r.reply.sheet ≡ sheet_of (next (book_of s) (R.balancing c))
-  balance-sheet = ap (λ (x : BalanceReply). x.sheet) e.reply ∙ balance-next (book_of s) c
-
-  pub balance-sound : Sound r.reply.sheet
-  balance-sound = rw balance-sheet (sheet-sound (next (book_of s) (R.balancing c)) (next-sound (book_of s) (R.balancing c) v.book))
-
-  balance-book : book_of r.reply.sheet ≡ next (book_of s) (R.balancing c)
-  balance-book = rw balance-sheet (book-sheet (next (book_of s) (R.balancing c)) (next-sound (book_of s) (R.balancing c) v.book))
-
-  pub balance-refused : (r.reply.refusal ≡ Nothing → ⊥) → (answer (book_of s) (R.balancing c) ≡ refused buffer_short) × (number_of r.reply.refusal ≡ 9)
-  unfolding balance_reply answer
-  balance-refused n =
-      let q = ap (λ (x : BalanceReply). x.refusal) e.reply in
-      let w = balance-either (book_of s) (roomy (book_of s) c) _ (λ z. n (q ∙ z)) in
-      (w.0, ap number_of q ∙ w.1)
-
-  balance-made : r.reply.refusal ≡ Nothing
-      → answer (book_of s) (R.balancing c) ≡ R.balanced (balance_book (book_of s)) (records_to (book_of s) (balance_book (book_of s)).assignment)
-  unfolding balance_reply answer
-  balance-made z = balance-really (book_of s) (roomy (book_of s) c) _ (sym (ap (λ (x : BalanceReply). x.refusal) e.reply) ∙ z)
-
-  module _ (bytes buffer : List ℕ) (a : read bytes ≡ accepted (book_of s)) (z : r.reply.refusal ≡ Nothing) (h : Hosted) (out : List ℕ)
-      (w : hosted_of h out ≡ into_buffer (L.text (written (book_of r.reply.sheet))) buffer) where
-    balance-text : hosted_of h out ≡ into_buffer (L.text (written (next (book_of s) (R.balancing c)))) buffer
-    balance-text = w ∙ ap (λ (k : Book). into_buffer (L.text (written k)) buffer) balance-book
-
-    -- the buffer is too short
-    pub balance-unwritten : (h.refusal ≡ 0 → ⊥) → C.Nothing buffer h.refusal h.line (filed bytes (R.balancing c) buffer)
-    balance-unwritten n = not_written bytes (R.balancing c) buffer (book_of s) a (rw (balance-made z)) h out balance-text n
-
-    pub balance-untouched : (h.refusal ≡ 0 → ⊥) → out ≡ buffer
-    balance-untouched n =
-        out-is bytes (R.balancing c) buffer (book_of s) a (rw (balance-made z)) h out balance-text ∙ sym (left_alone (balance-unwritten n))
-
-    -- it is not
-    pub balance-done : h.refusal ≡ 0
-        → BalanceFilingIs bytes c buffer (record {
-          reply = record {
-            refusal = 0;
-            line = h.line;
-            length = h.length;
-            makespan = r.reply.makespan;
-            bound = r.reply.bound;
-            level = r.reply.level;
-            lifts = r.reply.lifts;
-            pushes = r.reply.pushes;
-            size = r.reply.size;
-            group = r.reply.group;
-            records = r.reply.records;
-          };
-          change = r.change;
-        }) out
-    unfolding balance_reply
-    balance-done q =
-        let f = all_done bytes (R.balancing c) buffer (book_of s) a (rw (balance-made z)) h out balance-text q in
-        let m = balance-made z in
-        record {
-          reply = rw (f, e.reply, m, q);
-          sheet = sym (ap (λ (x : Filed). x.hosted.buffer) f);
-          change = rw f e.change;
-        }
+-- a core's answer with that reply
+abbrev shown_as : {P : Type 0} → ℕ → Change → Result (Reply P) Refusal → Result (Filing P) Fault
+shown_as n d (Ok r) = Ok (record { planning = record { reply = r; change = d }; length = n })
+shown_as n d (Err e) = Err (record { refusal = e; line = 0 })
 
 -- nothing is done
-pub balance-nothing : (bytes : List ℕ) (c : ℕ) (buffer : List ℕ) (i j : ℕ) (r : BalanceFiling) (out : List ℕ) → C.Nothing buffer i j (filed bytes (R.balancing c) buffer)
-    → (r.reply ≡ no_balance i j) × (r.change.n ≡ 0) → out ≡ buffer → BalanceFilingIs bytes c buffer r out
-balance-nothing bytes c buffer i j r out h e f = record {
-  reply = e.0 ∙ (rw (h.hosted, h.answer));
-  sheet = f ∙ left_alone h;
-  change = no_change c r.change h e.1;
+pub balance-nothing : (bytes : List ℕ) (c : ℕ) (buffer : List ℕ) (f : Fault) (out : List ℕ) → Nothing buffer f (filed bytes (R.balancing c) buffer)
+    → out ≡ (filed bytes (R.balancing c) buffer).hosted.buffer → BalanceFilingIs bytes c buffer (Err f) out
+balance-nothing bytes c buffer f out h o = record {
+  reply = rw (h.hosted, h.answer);
+  sheet = o;
+  change = λ z u. cc;
+  refused = λ z u. rw h.answer;
 }
 
--- what the call makes of its core's answer and of the list that is filled
-pub balance-is : (bytes : List ℕ) (before : List Move) (buffer : List ℕ) (r : BalanceFiling) (after : List Move) (out : List ℕ)
-    → BalanceFilingIs bytes (length before) buffer r out
-    → after ≡ at_front (map move_as (records r.change.n r.change.old r.change.new)) before
-    → BalanceIs bytes before buffer r.reply after out
-balance-is bytes before buffer r after out h e = record { is = h.reply; list = filled before after h.change e; sheet = h.sheet }
+-- a reply that is made, as the host is given it
+balance-shown : (n : ℕ) (p : Planning Balanced) (out : List ℕ) (k : Book) (s : Sheet) {a : Answer}
+    → a ≡ R.balanced (balance_book k) (records_to k (balance_book k).assignment) → Ok p.reply ≡ balance_as a s
+    → filed_balance (Ok (record { planning = p; length = n })) ≡ balance_with (hosted_as (Ok n) out) a
+balance-shown n p out k s m q =
+    let r = rw m at q in
+    rw m (ap (λ (x : Result (Reply Balanced) Refusal). filed_balance (shown_as n p.change x)) r)
+
+-- ---- balance
+
+balance-really : (k : Book) (t : Bool) (s : Sheet) (r : Reply Balanced) → Ok r ≡ balance_as (balance_answer t k) s
+    → balance_answer t k ≡ R.balanced (balance_book k) (records_to k (balance_book k).assignment)
+balance-really k true s r e = refl
+balance-really k false s r e = cc
+
+balance-either : (k : Book) (t : Bool) (s : Sheet) (e : Refusal) → Err e ≡ balance_as (balance_answer t k) s
+    → (balance_answer t k ≡ refused buffer_short) × (number_of e ≡ 9)
+balance-either k true s e q = cc
+balance-either k false s e q = (refl, let z : e ≡ BufferShort = cc in rw z)
+
+-- the list is too short
+pub balance-refused : (bytes : List ℕ) (c : ℕ) (buffer : List ℕ) (k : Book) → read bytes ≡ accepted k → (e : Refusal)
+    → (answer k (R.balancing c) ≡ refused buffer_short) × (number_of e ≡ 9) → BalanceFilingIs bytes c buffer (Err (fault e 0)) buffer
+balance-refused bytes c buffer k a e s =
+    let h = not_made bytes (R.balancing c) buffer k a (fault e 0) s.0 s.1 refl in
+    balance-nothing bytes c buffer (fault e 0) buffer h (left_alone h)
+
+module _ (s : Sheet) (c : ℕ) (e : Refusal)
+    (d : PlanningIs (balance_reply (book_of s) c) (answer (book_of s) (R.balancing c)) c (Err e)) where
+  pub balance-short : (answer (book_of s) (R.balancing c) ≡ refused buffer_short) × (number_of e ≡ 9)
+  unfolding balance_reply answer
+  balance-short = balance-either (book_of s) (roomy (book_of s) c) _ e d.reply
+
+module _ (s : Sheet) (v : Sound s) (c : ℕ) (p : Planning Balanced)
+    (d : PlanningIs (balance_reply (book_of s) c) (answer (book_of s) (R.balancing c)) c (Ok p)) where
+  balance-sheet : p.reply.planned.sheet ≡ sheet_of (next (book_of s) (R.balancing c))
+  balance-sheet = ap (balance_left (sheet_of (book_of s))) d.reply ∙ balance-next (book_of s) c
+
+  pub balance-sound : Sound p.reply.planned.sheet
+  balance-sound = rw balance-sheet (sheet-sound (next (book_of s) (R.balancing c)) (next-sound (book_of s) (R.balancing c) v.book))
+
+  balance-made : answer (book_of s) (R.balancing c) ≡ R.balanced (balance_book (book_of s)) (records_to (book_of s) (balance_book (book_of s)).assignment)
+  unfolding balance_reply answer
+  balance-made = balance-really (book_of s) (roomy (book_of s) c) _ p.reply d.reply
+
+  module _ (bytes buffer : List ℕ) (a : read bytes ≡ accepted (book_of s)) (out : List ℕ) where
+    balance-text : (r : Result ℕ Fault) → hosted_as r out ≡ into_buffer (L.text (written (book_of p.reply.planned.sheet))) buffer
+        → hosted_as r out ≡ into_buffer (L.text (written (next (book_of s) (R.balancing c)))) buffer
+    balance-text r w =
+        w ∙ ap (λ (k : Book). into_buffer (L.text (written k)) buffer)
+        (rw balance-sheet (book-sheet (next (book_of s) (R.balancing c)) (next-sound (book_of s) (R.balancing c) v.book)))
+
+    -- the buffer is too short
+    pub balance-unwritten : (f : Fault) → hosted_as (Err f) out ≡ into_buffer (L.text (written (book_of p.reply.planned.sheet))) buffer
+        → BalanceFilingIs bytes c buffer (Err f) out
+    balance-unwritten f w =
+        let t = balance-text (Err f) w in
+        let o = out-is bytes (R.balancing c) buffer (book_of s) a (rw balance-made) (Err f) out t in
+        let h = not_written bytes (R.balancing c) buffer (book_of s) a (rw balance-made) out f t in
+        balance-nothing bytes c buffer f out h o
+
+    -- it is not
+    pub balance-done : (n : ℕ) → hosted_as (Ok n) out ≡ into_buffer (L.text (written (book_of p.reply.planned.sheet))) buffer
+        → BalanceFilingIs bytes c buffer (Ok (record { planning = p; length = n })) out
+    unfolding balance_reply
+    balance-done n w =
+        let f = all_done bytes (R.balancing c) buffer (book_of s) a (rw balance-made) out n (balance-text (Ok n) w) in
+        let m = balance-made in
+        let q : Ok p.reply ≡ balance_as (answer (book_of s) (R.balancing c)) (sheet_of (next (book_of s) (R.balancing c))) = d.reply in
+        record {
+          reply = rw f (balance-shown n p out _ _ m q);
+          sheet = sym (ap (λ (x : Filed). x.hosted.buffer) f);
+          change = λ z u. let g : z.planning.change ≡ p.change = cc in rw (f, g) (d.change p refl);
+          refused = λ z u. cc;
+        }
+
+-- what the call makes of its core's answer and of the list that is filled, or stays
+pub balance-filled : (bytes : List ℕ) (before : List Move) (buffer : List ℕ) (f : Filing Balanced) (after : List Move) (out : List ℕ)
+    → BalanceFilingIs bytes (length before) buffer (Ok f) out
+    → after ≡ at_front (map move_as (records f.planning.change.n f.planning.change.old f.planning.change.new)) before
+    → BalanceIs bytes before buffer (filed_balance (Ok f)) after out
+balance-filled bytes before buffer f after out h e = record { is = h.reply; list = filled before after (h.change f refl) e; sheet = h.sheet }
+
+pub balance-kept : (bytes : List ℕ) (before : List Move) (buffer : List ℕ) (f : Fault) (out : List ℕ)
+    → BalanceFilingIs bytes (length before) buffer (Err f) out → BalanceIs bytes before buffer (filed_balance (Err f)) before out
+balance-kept bytes before buffer f out h = record { is = h.reply; list = rw (h.refused f refl); sheet = h.sheet }
+
+-- nothing is done
+pub settle-nothing : (bytes : List ℕ) (c : ℕ) (buffer : List ℕ) (f : Fault) (out : List ℕ) → Nothing buffer f (filed bytes (R.settling c) buffer)
+    → out ≡ (filed bytes (R.settling c) buffer).hosted.buffer → SettleFilingIs bytes c buffer (Err f) out
+settle-nothing bytes c buffer f out h o = record {
+  reply = rw (h.hosted, h.answer);
+  sheet = o;
+  change = λ z u. cc;
+  refused = λ z u. rw h.answer;
+}
+
+-- a reply that is made, as the host is given it
+settle-shown : (n : ℕ) (p : Planning Settled) (out : List ℕ) (k : Book) (s : Sheet) {a : Answer}
+    → a ≡ R.settled (settle_book k) (records_to k (settle_book k).assignment) → Ok p.reply ≡ settle_as a s
+    → filed_settle (Ok (record { planning = p; length = n })) ≡ settle_with (hosted_as (Ok n) out) a
+settle-shown n p out k s m q =
+    let r = rw m at q in
+    rw m (ap (λ (x : Result (Reply Settled) Refusal). filed_settle (shown_as n p.change x)) r)
 
 -- ---- settle
 
-settle-either : (k : Book) (t : Bool) (s : Sheet) → ((settle_as (settle_answer t k) s).refusal ≡ Nothing → ⊥)
-    → (settle_answer t k ≡ refused buffer_short) × (number_of (settle_as (settle_answer t k) s).refusal ≡ 9)
-settle-either k true s n = absurd (n refl)
-settle-either k false s n = (refl, refl)
-
-settle-really : (k : Book) (t : Bool) (s : Sheet) → (settle_as (settle_answer t k) s).refusal ≡ Nothing
+settle-really : (k : Book) (t : Bool) (s : Sheet) (r : Reply Settled) → Ok r ≡ settle_as (settle_answer t k) s
     → settle_answer t k ≡ R.settled (settle_book k) (records_to k (settle_book k).assignment)
-settle-really k true s e = refl
-settle-really k false s e = absurd (C.short-some e)
+settle-really k true s r e = refl
+settle-really k false s r e = cc
 
-module _ (s : Sheet) (v : Sound s) (c : ℕ) (r : Settling) (e : SettlingIs (book_of s) c r) where
-  settle-sheet : r.reply.sheet ≡ sheet_of (next (book_of s) (R.settling c))
-  settle-sheet = ap (λ (x : SettleReply). x.sheet) e.reply ∙ settle-next (book_of s) c
+settle-either : (k : Book) (t : Bool) (s : Sheet) (e : Refusal) → Err e ≡ settle_as (settle_answer t k) s
+    → (settle_answer t k ≡ refused buffer_short) × (number_of e ≡ 9)
+settle-either k true s e q = cc
+settle-either k false s e q = (refl, let z : e ≡ BufferShort = cc in rw z)
 
-  pub settle-sound : Sound r.reply.sheet
+-- the list is too short
+pub settle-refused : (bytes : List ℕ) (c : ℕ) (buffer : List ℕ) (k : Book) → read bytes ≡ accepted k → (e : Refusal)
+    → (answer k (R.settling c) ≡ refused buffer_short) × (number_of e ≡ 9) → SettleFilingIs bytes c buffer (Err (fault e 0)) buffer
+settle-refused bytes c buffer k a e s =
+    let h = not_made bytes (R.settling c) buffer k a (fault e 0) s.0 s.1 refl in
+    settle-nothing bytes c buffer (fault e 0) buffer h (left_alone h)
+
+module _ (s : Sheet) (c : ℕ) (e : Refusal)
+    (d : PlanningIs (settle_reply (book_of s) c) (answer (book_of s) (R.settling c)) c (Err e)) where
+  pub settle-short : (answer (book_of s) (R.settling c) ≡ refused buffer_short) × (number_of e ≡ 9)
+  unfolding settle_reply answer
+  settle-short = settle-either (book_of s) (roomy (book_of s) c) _ e d.reply
+
+module _ (s : Sheet) (v : Sound s) (c : ℕ) (p : Planning Settled)
+    (d : PlanningIs (settle_reply (book_of s) c) (answer (book_of s) (R.settling c)) c (Ok p)) where
+  settle-sheet : p.reply.planned.sheet ≡ sheet_of (next (book_of s) (R.settling c))
+  settle-sheet = ap (settle_left (sheet_of (book_of s))) d.reply ∙ settle-next (book_of s) c
+
+  pub settle-sound : Sound p.reply.planned.sheet
   settle-sound = rw settle-sheet (sheet-sound (next (book_of s) (R.settling c)) (next-sound (book_of s) (R.settling c) v.book))
 
-  settle-book : book_of r.reply.sheet ≡ next (book_of s) (R.settling c)
-  settle-book = rw settle-sheet (book-sheet (next (book_of s) (R.settling c)) (next-sound (book_of s) (R.settling c) v.book))
-
-  pub settle-refused : (r.reply.refusal ≡ Nothing → ⊥) → (answer (book_of s) (R.settling c) ≡ refused buffer_short) × (number_of r.reply.refusal ≡ 9)
+  settle-made : answer (book_of s) (R.settling c) ≡ R.settled (settle_book (book_of s)) (records_to (book_of s) (settle_book (book_of s)).assignment)
   unfolding settle_reply answer
-  settle-refused n =
-      let q = ap (λ (x : SettleReply). x.refusal) e.reply in
-      let w = settle-either (book_of s) (roomy (book_of s) c) _ (λ z. n (q ∙ z)) in
-      (w.0, ap number_of q ∙ w.1)
+  settle-made = settle-really (book_of s) (roomy (book_of s) c) _ p.reply d.reply
 
-  settle-made : r.reply.refusal ≡ Nothing
-      → answer (book_of s) (R.settling c) ≡ R.settled (settle_book (book_of s)) (records_to (book_of s) (settle_book (book_of s)).assignment)
-  unfolding settle_reply answer
-  settle-made z = settle-really (book_of s) (roomy (book_of s) c) _ (sym (ap (λ (x : SettleReply). x.refusal) e.reply) ∙ z)
-
-  module _ (bytes buffer : List ℕ) (a : read bytes ≡ accepted (book_of s)) (z : r.reply.refusal ≡ Nothing) (h : Hosted) (out : List ℕ)
-      (w : hosted_of h out ≡ into_buffer (L.text (written (book_of r.reply.sheet))) buffer) where
-    settle-text : hosted_of h out ≡ into_buffer (L.text (written (next (book_of s) (R.settling c)))) buffer
-    settle-text = w ∙ ap (λ (k : Book). into_buffer (L.text (written k)) buffer) settle-book
+  module _ (bytes buffer : List ℕ) (a : read bytes ≡ accepted (book_of s)) (out : List ℕ) where
+    settle-text : (r : Result ℕ Fault) → hosted_as r out ≡ into_buffer (L.text (written (book_of p.reply.planned.sheet))) buffer
+        → hosted_as r out ≡ into_buffer (L.text (written (next (book_of s) (R.settling c)))) buffer
+    settle-text r w =
+        w ∙ ap (λ (k : Book). into_buffer (L.text (written k)) buffer)
+        (rw settle-sheet (book-sheet (next (book_of s) (R.settling c)) (next-sound (book_of s) (R.settling c) v.book)))
 
     -- the buffer is too short
-    pub settle-unwritten : (h.refusal ≡ 0 → ⊥) → C.Nothing buffer h.refusal h.line (filed bytes (R.settling c) buffer)
-    settle-unwritten n = not_written bytes (R.settling c) buffer (book_of s) a (rw (settle-made z)) h out settle-text n
-
-    pub settle-untouched : (h.refusal ≡ 0 → ⊥) → out ≡ buffer
-    settle-untouched n =
-        out-is bytes (R.settling c) buffer (book_of s) a (rw (settle-made z)) h out settle-text ∙ sym (left_alone (settle-unwritten n))
+    pub settle-unwritten : (f : Fault) → hosted_as (Err f) out ≡ into_buffer (L.text (written (book_of p.reply.planned.sheet))) buffer
+        → SettleFilingIs bytes c buffer (Err f) out
+    settle-unwritten f w =
+        let t = settle-text (Err f) w in
+        let o = out-is bytes (R.settling c) buffer (book_of s) a (rw settle-made) (Err f) out t in
+        let h = not_written bytes (R.settling c) buffer (book_of s) a (rw settle-made) out f t in
+        settle-nothing bytes c buffer f out h o
 
     -- it is not
-    pub settle-done : h.refusal ≡ 0
-        → SettleFilingIs bytes c buffer (record {
-          reply = record {
-            refusal = 0;
-            line = h.line;
-            length = h.length;
-            makespan = r.reply.makespan;
-            moves = r.reply.moves;
-            records = r.reply.records;
-          };
-          change = r.change;
-        }) out
+    pub settle-done : (n : ℕ) → hosted_as (Ok n) out ≡ into_buffer (L.text (written (book_of p.reply.planned.sheet))) buffer
+        → SettleFilingIs bytes c buffer (Ok (record { planning = p; length = n })) out
     unfolding settle_reply
-    settle-done q =
-        let f = all_done bytes (R.settling c) buffer (book_of s) a (rw (settle-made z)) h out settle-text q in
-        let m = settle-made z in
+    settle-done n w =
+        let f = all_done bytes (R.settling c) buffer (book_of s) a (rw settle-made) out n (settle-text (Ok n) w) in
+        let m = settle-made in
+        let q : Ok p.reply ≡ settle_as (answer (book_of s) (R.settling c)) (sheet_of (next (book_of s) (R.settling c))) = d.reply in
         record {
-          reply = rw (f, e.reply, m, q);
+          reply = rw f (settle-shown n p out _ _ m q);
           sheet = sym (ap (λ (x : Filed). x.hosted.buffer) f);
-          change = rw f e.change;
+          change = λ z u. let g : z.planning.change ≡ p.change = cc in rw (f, g) (d.change p refl);
+          refused = λ z u. cc;
         }
 
--- nothing is done
-pub settle-nothing : (bytes : List ℕ) (c : ℕ) (buffer : List ℕ) (i j : ℕ) (r : SettleFiling) (out : List ℕ) → C.Nothing buffer i j (filed bytes (R.settling c) buffer)
-    → (r.reply ≡ no_settle i j) × (r.change.n ≡ 0) → out ≡ buffer → SettleFilingIs bytes c buffer r out
-settle-nothing bytes c buffer i j r out h e f = record {
-  reply = e.0 ∙ (rw (h.hosted, h.answer));
-  sheet = f ∙ left_alone h;
-  change = no_change c r.change h e.1;
-}
+-- what the call makes of its core's answer and of the list that is filled, or stays
+pub settle-filled : (bytes : List ℕ) (before : List Move) (buffer : List ℕ) (f : Filing Settled) (after : List Move) (out : List ℕ)
+    → SettleFilingIs bytes (length before) buffer (Ok f) out
+    → after ≡ at_front (map move_as (records f.planning.change.n f.planning.change.old f.planning.change.new)) before
+    → SettleIs bytes before buffer (filed_settle (Ok f)) after out
+settle-filled bytes before buffer f after out h e = record { is = h.reply; list = filled before after (h.change f refl) e; sheet = h.sheet }
 
--- what the call makes of its core's answer and of the list that is filled
-pub settle_is : (bytes : List ℕ) (before : List Move) (buffer : List ℕ) (r : SettleFiling) (after : List Move) (out : List ℕ)
-    → SettleFilingIs bytes (length before) buffer r out
-    → after ≡ at_front (map move_as (records r.change.n r.change.old r.change.new)) before
-    → SettleIs bytes before buffer r.reply after out
-settle_is bytes before buffer r after out h e = record { is = h.reply; list = filled before after h.change e; sheet = h.sheet }
+pub settle-kept : (bytes : List ℕ) (before : List Move) (buffer : List ℕ) (f : Fault) (out : List ℕ)
+    → SettleFilingIs bytes (length before) buffer (Err f) out → SettleIs bytes before buffer (filed_settle (Err f)) before out
+settle-kept bytes before buffer f out h = record { is = h.reply; list = rw (h.refused f refl); sheet = h.sheet }

@@ -1,16 +1,19 @@
 -- What balance and settle promise on a file, with a list lent for the records and a buffer for the sheet.
-use Rattle.std.specs.Prelude.{ℕ, ◌≡◌, List, length, replicate}
+use Rattle.std.specs.Prelude.{ℕ, ◌≡◌, List, [], length, replicate, Result, Ok, Err}
 use Rattle.rules.specs.Lent.{Hosted}
 use Rattle.rules.specs.Filed.{Filed, filed}
-use Rattle.rules.specs.Run.{Answer}
+use Rattle.rules.specs.Run.{Answer, records_in}
 use Rattle.rules.specs.Run as R
+use Rattle.sheet.specs.declared.Fault.{Fault}
 use Rattle.sheet.specs.Represent.{padded}
+use Rattle.sheet.specs.Answers.{number_of}
+use Rattle.planner.specs.declared.Balanced.{Balanced}
+use Rattle.planner.specs.declared.Settled.{Settled}
 use Rattle.moves.specs.declared.Move.{Move}
 use Rattle.calls.specs.Lent.{ChangeIs, lent_after}
 use Rattle.filing.specs.declared.BalanceFiled.{BalanceFiled}
 use Rattle.filing.specs.declared.SettleFiled.{SettleFiled}
-use Rattle.filing.specs.declared.BalanceFiling.{BalanceFiling}
-use Rattle.filing.specs.declared.SettleFiling.{SettleFiling}
+use Rattle.filing.specs.declared.Filing.{Filing}
 
 -- ---- what each answers, by the rules
 
@@ -86,14 +89,47 @@ pub record SettleIs (s : List ℕ) (before : List Move) (buffer : List ℕ) (r :
   pub list : after ≡ lent_after (filed s (R.settling (length before)) buffer).answer before
   pub sheet : out ≡ (filed s (R.settling (length before)) buffer).hosted.buffer
 
--- ---- the cores, for a list of c entries: the answer, the buffer, and a change with the answer's records
+-- ---- the cores, for a list of c entries: the answer, as the host is given it, the buffer, and a change with the answer's records
 
-pub record BalanceFilingIs (s : List ℕ) (c : ℕ) (buffer : List ℕ) (r : BalanceFiling) (out : List ℕ) : Type 0 where
-  pub reply : r.reply ≡ balance_filed (filed s (R.balancing c) buffer)
+abbrev pub filed_balance : Result (Filing Balanced) Fault → BalanceFiled
+filed_balance (Ok f) =
+    let r = f.planning.reply in
+    record {
+      refusal = 0;
+      line = 0;
+      length = f.length;
+      makespan = r.planned.makespan;
+      bound = r.planned.bound;
+      level = r.planned.level;
+      lifts = r.planned.lifts;
+      pushes = r.planned.pushes;
+      size = r.planned.group.size;
+      group = r.planned.group.list;
+      records = r.records;
+    }
+filed_balance (Err f) = no_balance (number_of f.refusal) f.line
+
+abbrev pub filed_settle : Result (Filing Settled) Fault → SettleFiled
+filed_settle (Ok f) =
+    let r = f.planning.reply in
+    record {
+      refusal = 0;
+      line = 0;
+      length = f.length;
+      makespan = r.planned.makespan;
+      moves = r.planned.moves;
+      records = r.records;
+    }
+filed_settle (Err f) = no_settle (number_of f.refusal) f.line
+
+pub record BalanceFilingIs (s : List ℕ) (c : ℕ) (buffer : List ℕ) (r : Result (Filing Balanced) Fault) (out : List ℕ) : Type 0 where
+  pub reply : filed_balance r ≡ balance_filed (filed s (R.balancing c) buffer)
   pub sheet : out ≡ (filed s (R.balancing c) buffer).hosted.buffer
-  pub change : ChangeIs (filed s (R.balancing c) buffer).answer c r.change
+  pub change : (f : Filing Balanced) → r ≡ Ok f → ChangeIs (filed s (R.balancing c) buffer).answer c f.planning.change
+  pub refused : (f : Fault) → r ≡ Err f → records_in (filed s (R.balancing c) buffer).answer ≡ []
 
-pub record SettleFilingIs (s : List ℕ) (c : ℕ) (buffer : List ℕ) (r : SettleFiling) (out : List ℕ) : Type 0 where
-  pub reply : r.reply ≡ settle_filed (filed s (R.settling c) buffer)
+pub record SettleFilingIs (s : List ℕ) (c : ℕ) (buffer : List ℕ) (r : Result (Filing Settled) Fault) (out : List ℕ) : Type 0 where
+  pub reply : filed_settle r ≡ settle_filed (filed s (R.settling c) buffer)
   pub sheet : out ≡ (filed s (R.settling c) buffer).hosted.buffer
-  pub change : ChangeIs (filed s (R.settling c) buffer).answer c r.change
+  pub change : (f : Filing Settled) → r ≡ Ok f → ChangeIs (filed s (R.settling c) buffer).answer c f.planning.change
+  pub refused : (f : Fault) → r ≡ Err f → records_in (filed s (R.settling c) buffer).answer ≡ []

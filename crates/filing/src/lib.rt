@@ -1,15 +1,15 @@
 // Balance and settle for hosts that keep their sheet as a file: the sheet's bytes in; the figures, the records of moves and the sheet
-// written back out. The cores, for a caller whose list has so many entries: what the call answers, and the change from which the
+// written back out. The cores, for a caller whose list has so many entries: what the call answers, with the change from which the
 // list is filled.
 #![tactic(auto)]
 
 ghost use Rattle.std.specs.Prelude.{◌≡◌};
-ghost use Rattle.filing.specs.Filed.{no_balance, no_settle, BalanceFilingIs, SettleFilingIs};
+ghost use Rattle.filing.specs.Filed.{filed_balance, filed_settle, BalanceFilingIs, SettleFilingIs};
 
-use calls::cores::{balance_for, settle_for};
-use moves::Change;
+use calls::cores::{Planning, balance_for, settle_for};
+use planner::{Balanced, Settled};
 use reading::read;
-use sheet::{Refusal, code};
+use sheet::Fault;
 use written::write::write;
 
 // What balance answers: the refusal's number, 0 for none, and its line, 0 for none and for 9; how many bytes the sheet that it leaves has;
@@ -43,143 +43,96 @@ pub struct SettleFiled {
     pub records: usize,
 }
 
+// A planning whose sheet is written, and how many bytes that has.
 #[derive(Clone, Copy)]
-pub struct BalanceFiling {
-    pub reply: BalanceFiled,
-    pub change: Change,
+pub struct Filing<P> {
+    pub planning: Planning<P>,
+    pub length: usize,
 }
 
-#[derive(Clone, Copy)]
-pub struct SettleFiling {
-    pub reply: SettleFiled,
-    pub change: Change,
-}
+impl From<Result<Filing<Balanced>, Fault>> for BalanceFiled {
+    ghost from_gives = { λ answer filed. filed ≡ filed_balance answer };
 
-// No change.
-fn unchanged() -> Change
-    ensures { result.n ≡ 0 }
-{
-    Change {
-        old: [0u8; 200],
-        new: [0u8; 200],
-        n: 0,
+    fn from(answer: Result<Filing<Balanced>, Fault>) -> BalanceFiled {
+        match answer {
+            Ok(Filing { planning, length }) => {
+                let planned = planning.reply.planned;
+                let group = planned.group.list;
+                BalanceFiled {
+                    refusal: 0,
+                    line: 0,
+                    length,
+                    makespan: planned.makespan,
+                    bound: planned.bound,
+                    level: planned.level,
+                    lifts: planned.lifts,
+                    pushes: planned.pushes,
+                    size: planned.group.size,
+                    group,
+                    records: planning.reply.records,
+                }
+            }
+            Err(fault) => BalanceFiled {
+                refusal: u32::from(fault.refusal),
+                line: fault.line,
+                length: 0,
+                makespan: 0,
+                bound: 0,
+                level: 0,
+                lifts: 0,
+                pushes: 0,
+                size: 0,
+                group: [0u8; 24],
+                records: 0,
+            },
+        }
     }
 }
 
-// A refusal, and no change.
-fn no_balance(refusal: u32, line: usize) -> BalanceFiling
-    ensures { (result.reply ≡ no_balance refusal line) × (result.change.n ≡ 0) }
-{
-    let change = unchanged();
-    BalanceFiling {
-        reply: BalanceFiled {
-            refusal,
-            line,
-            length: 0,
-            makespan: 0,
-            bound: 0,
-            level: 0,
-            lifts: 0,
-            pushes: 0,
-            size: 0,
-            group: [0u8; 24],
-            records: 0,
-        },
-        change,
-    }
-}
+impl From<Result<Filing<Settled>, Fault>> for SettleFiled {
+    ghost from_gives = { λ answer filed. filed ≡ filed_settle answer };
 
-fn no_settle(refusal: u32, line: usize) -> SettleFiling
-    ensures { (result.reply ≡ no_settle refusal line) × (result.change.n ≡ 0) }
-{
-    let change = unchanged();
-    SettleFiling {
-        reply: SettleFiled {
-            refusal,
-            line,
-            length: 0,
-            makespan: 0,
-            moves: 0,
-            records: 0,
-        },
-        change,
+    fn from(answer: Result<Filing<Settled>, Fault>) -> SettleFiled {
+        match answer {
+            Ok(Filing { planning, length }) => SettleFiled {
+                refusal: 0,
+                line: 0,
+                length,
+                makespan: planning.reply.planned.makespan,
+                moves: planning.reply.planned.moves,
+                records: planning.reply.records,
+            },
+            Err(fault) => SettleFiled {
+                refusal: u32::from(fault.refusal),
+                line: fault.line,
+                length: 0,
+                makespan: 0,
+                moves: 0,
+                records: 0,
+            },
+        }
     }
 }
 
 // Reads a sheet of any bytes, balances it and writes the sheet that this leaves at the front of `out`. A refusal of the sheet comes first,
 // then 9 for a list with fewer entries than it has batches, then 9 for a short buffer. No refusal writes anything; bytes past the
 // sheet stay.
-pub fn balance_file(sheet: &[u8], entries: usize, out: &mut [u8]) -> BalanceFiling
+pub fn balance_file(sheet: &[u8], entries: usize, out: &mut [u8]) -> Result<Filing<Balanced>, Fault>
     ensures { BalanceFilingIs sheet.now entries out.old result out.new }
 {
-    let r = read(sheet);
-    let e = r.refusal;
-    let Refusal::Nothing = e else {
-        return no_balance(code(e), r.line);
-    };
-    let s = r.sheet;
-    let b = balance_for(s, entries);
-    let reply = b.reply;
-    let short = reply.refusal;
-    let Refusal::Nothing = short else {
-        return no_balance(code(short), 0);
-    };
-    let after = reply.sheet;
-    let h = write(after, out);
-    if h.refusal != 0 {
-        return no_balance(h.refusal, h.line);
-    }
-    let group = reply.group;
-    let change = b.change;
-    BalanceFiling {
-        reply: BalanceFiled {
-            refusal: 0,
-            line: h.line,
-            length: h.length,
-            makespan: reply.makespan,
-            bound: reply.bound,
-            level: reply.level,
-            lifts: reply.lifts,
-            pushes: reply.pushes,
-            size: reply.size,
-            group,
-            records: reply.records,
-        },
-        change,
-    }
+    let sheet = read(sheet)?;
+    let planning = balance_for(sheet, entries)?;
+    let length = write(planning.reply.planned.sheet, out)?;
+    Ok(Filing { planning, length })
 }
 
-// The same for settle.
-pub fn settle_file(sheet: &[u8], entries: usize, out: &mut [u8]) -> SettleFiling
+// The same for settle: one generic function would have to take the core as a parameter, and the sheet from what it answers.
+pub fn settle_file(sheet: &[u8], entries: usize, out: &mut [u8]) -> Result<Filing<Settled>, Fault>
     ensures { SettleFilingIs sheet.now entries out.old result out.new }
 {
-    let r = read(sheet);
-    let e = r.refusal;
-    let Refusal::Nothing = e else {
-        return no_settle(code(e), r.line);
-    };
-    let s = r.sheet;
-    let z = settle_for(s, entries);
-    let reply = z.reply;
-    let short = reply.refusal;
-    let Refusal::Nothing = short else {
-        return no_settle(code(short), 0);
-    };
-    let after = reply.sheet;
-    let h = write(after, out);
-    if h.refusal != 0 {
-        return no_settle(h.refusal, h.line);
-    }
-    let change = z.change;
-    SettleFiling {
-        reply: SettleFiled {
-            refusal: 0,
-            line: h.line,
-            length: h.length,
-            makespan: reply.makespan,
-            moves: reply.moves,
-            records: reply.records,
-        },
-        change,
-    }
+    let sheet = read(sheet)?;
+    let planning = settle_for(sheet, entries)?;
+    let after = planning.reply.planned.sheet;
+    let length = write(after, out)?;
+    Ok(Filing { planning, length })
 }

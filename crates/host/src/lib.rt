@@ -54,18 +54,24 @@ pub fn bankplan_take(
 pub fn bankplan_balance(sheet: &[u8], moves: &mut [Move], written: &mut [u8]) -> BalanceFiled
     ensures { BalanceIs sheet.now moves.old written.old result moves.new written.new }
 {
-    let entries = moves.len();
-    let b = balance_file(sheet, entries, written);
-    fill(moves, b.change);
-    b.reply
+    match balance_file(sheet, moves.len(), written) {
+        Ok(filing) => {
+            fill(moves, filing.planning.change);
+            BalanceFiled::from(Ok(filing))
+        }
+        Err(fault) => BalanceFiled::from(Err(fault)),
+    }
 }
 
 // Settles a sheet of any bytes, likewise.
 pub fn bankplan_settle(sheet: &[u8], moves: &mut [Move], written: &mut [u8]) -> SettleFiled
     ensures { SettleIs sheet.now moves.old written.old result moves.new written.new }
 {
-    let entries = moves.len();
-    let z = settle_file(sheet, entries, written);
-    fill(moves, z.change);
-    z.reply
+    match settle_file(sheet, moves.len(), written) {
+        Ok(filing) => {
+            fill(moves, filing.planning.change);
+            SettleFiled::from(Ok(filing))
+        }
+        Err(fault) => SettleFiled::from(Err(fault)),
+    }
 }

@@ -14,12 +14,12 @@ use Rattle.rules.specs.Read.{Part, gives, refuses, and_then, or_refuse, field_pa
 use Rattle.rules.specs.Edit.{add, withdraw, requalify, move, start}
 use Rattle.rules.specs.Run.{Call, editing, reviewing, trying, balancing, settling}
 use Rattle.rules.specs.Journal.{numbers_at, list_at, add_at, withdraw_at, requalify_at, move_at, trial_at, balance_at, settle_at, start_at, call_at, call_line}
-use Rattle.theory.proofs.Logic.{conflict}
 use Rattle.theory.proofs.Field.{six}
-use Rattle.journal.specs.declared.entry.Entry.{Entry}
-use Rattle.journal.specs.declared.entry.KeptList.{KeptList}
-use Rattle.journal.specs.Entry.{entry_with, entry_of, no_entry, entry_as, kept_as, one_number, two_numbers, number_and_list, numbers_as}
-use Rattle.sheet.proofs.Firsts.{firsts-few, firsts-long}
+use Rattle.fields.proofs.Reading.{next-at}
+use Rattle.std.proofs.Common.{Option, Some, None}
+use Rattle.journal.specs.declared.entry.Instruments.{Instruments}
+use Rattle.journal.specs.declared.entry.Call as C
+use Rattle.journal.specs.Entry.{kept, call_of, entry_as, list_as}
 
 -- ---- a part read from r is refused, or leaves what follows k bytes, at least b
 
@@ -116,157 +116,56 @@ line-leaves r =
     then-leaves 1 _ (number-leaves r) (λ kind k.
     then-leaves 1 _ (call-leaves kind (drop k r)) (λ c i. end_leaves c (drop i (drop k r))))
 
--- ---- an entry that is read from at on: its call, and where it ends
+-- ---- a call that is read from at on, and where it ends
 
-pub record EntryRead (s : List ℕ) (at b : ℕ) (p : Part Call) (e : Entry) : Type 0 where
+pub record CallRead (s : List ℕ) (at b : ℕ) (p : Part Call) (e : C.Call) (n : ℕ) : Type 0 where
   pub call : Call
-  pub part : p ≡ gives call (drop e.next s)
-  pub same : e ≡ entry_of call e.next
-  pub past : at + b ≤ e.next
-  pub room : e.next ≤ length s
+  pub part : p ≡ gives call (drop n s)
+  pub same : e ≡ call_of call
+  pub past : at + b ≤ n
+  pub room : n ≤ length s
 
-pub next_of : (c : Call) (n : ℕ) → (entry_of c n).next ≡ n
-next_of (editing (add t l)) n = refl
-next_of (editing (withdraw b)) n = refl
-next_of (editing (requalify b l)) n = refl
-next_of (editing (move b i)) n = refl
-next_of (editing (start b)) n = refl
-next_of reviewing n = refl
-next_of (trying a) n = refl
-next_of (balancing c) n = refl
-next_of (settling c) n = refl
-
-pub fault-of : (c : Call) (n : ℕ) → (entry_of c n).fault ≡ false
-fault-of (editing (add t l)) n = refl
-fault-of (editing (withdraw b)) n = refl
-fault-of (editing (requalify b l)) n = refl
-fault-of (editing (move b i)) n = refl
-fault-of (editing (start b)) n = refl
-fault-of reviewing n = refl
-fault-of (trying a) n = refl
-fault-of (balancing c) n = refl
-fault-of (settling c) n = refl
-
--- the numbers of its list that are kept stand in its row
-pub count_kept : (c : Call) (n : ℕ) → (entry_of c n).count ≤ length (entry_of c n).list
-count_kept (editing (add t l)) n = omega (arith, firsts-few l, firsts-long l)
-count_kept (editing (withdraw b)) n = omega arith
-count_kept (editing (requalify b l)) n = omega (arith, firsts-few l, firsts-long l)
-count_kept (editing (move b i)) n = omega arith
-count_kept (editing (start b)) n = omega arith
-count_kept reviewing n = omega arith
-count_kept (trying a) n = omega arith
-count_kept (balancing c) n = omega arith
-count_kept (settling c) n = omega arith
-
-pub given : (s : List ℕ) (at b : ℕ) (p : Part Call) (e : Entry) → at ≤ length s → Leaves b (drop at s) p
-    → e ≡ entry_as (length s) p → e.fault ≡ false → EntryRead s at b p e
-given s at b p e h (refuse g) q t = conflict (ap (λ (x : Entry). x.fault) q) t
-given s at b p e h (give c k i j) q t =
+pub given : (s : List ℕ) (at b : ℕ) (p : Part Call) (e : C.Call) (n : ℕ) → at ≤ length s → Leaves b (drop at s) p
+    → Some (e, n) ≡ entry_as (length s) p → CallRead s at b p e n
+given s at b p e n h (refuse g) q = cc
+given s at b p e n h (give c k i j) q =
     let d : drop k (drop at s) ≡ drop (at + k) s = drop-drop k at s in
-    let n : length s - length (drop k (drop at s)) ≡ at + k = omega (arith, length-drop at s, length-drop k (drop at s)) in
-    let w : e ≡ entry_of c (at + k) = q ∙ ap (entry_of c) n in
-    let m : e.next ≡ at + k = ap (λ (x : Entry). x.next) w ∙ next_of c (at + k) in
+    let w : ◌≡◌ {A = C.Call × ℕ} (e, n) (call_of c, length s - length (drop k (drop at s))) = cc in
+    let m : n ≡ at + k = omega (arith, ap (λ (x : C.Call × ℕ). x.1) w, length-drop at s, length-drop k (drop at s)) in
     record {
       call = c;
       part = ap (gives c) (d ∙ ap (λ (z : ℕ). drop z s) (sym m));
-      same = w ∙ ap (entry_of c) (sym m);
+      same = ap (λ (x : C.Call × ℕ). x.0) w;
       past = omega arith;
       room = omega (arith, length-drop at s);
     }
 
--- an entry that ends elsewhere
-abbrev pub ending : Entry → ℕ → Entry
-ending e n = record {
-  fault = false;
-  kind = e.kind;
-  a = e.a;
-  b = e.b;
-  count = e.count;
-  list = e.list;
-  next = n;
-}
+-- none is read where the rules refuse
+pub refused : (size : ℕ) (p : Part Call) → None ≡ entry_as size p → (e : Refusal) × (p ≡ refuses e)
+refused size (gives c r) q = cc
+refused size (refuses e) q = (e, refl)
 
-ending_of : (c : Call) (m n : ℕ) → ending (entry_of c m) n ≡ entry_of c n
-ending_of (editing (add t l)) m n = refl
-ending_of (editing (withdraw b)) m n = refl
-ending_of (editing (requalify b l)) m n = refl
-ending_of (editing (move b i)) m n = refl
-ending_of (editing (start b)) m n = refl
-ending_of reviewing m n = refl
-ending_of (trying a) m n = refl
-ending_of (balancing c) m n = refl
-ending_of (settling c) m n = refl
-
-pub ending-is : (c : Call) (e : Entry) (m n : ℕ) → e ≡ entry_of c m → ending e n ≡ entry_of c n
-ending-is c e m n q = ap (λ (x : Entry). ending x n) q ∙ ending_of c m n
-
--- a fault is handed on
-pub then-faulty : (size : ℕ) (p : Part Call) (e : Entry) (f : Call → List ℕ → Part Call) → e ≡ entry_as size p → e.fault ≡ true
-    → no_entry ≡ entry_as size (and_then p f)
-then-faulty size (gives c r) e f q t = conflict t (ap (λ (x : Entry). x.fault) q ∙ fault-of c (size - length r))
-then-faulty size (refuses g) e f q t = refl
-
--- ---- a list that is read
-
-pub list-faulty : (size kind a : ℕ) (l : KeptList) (p : Part (List ℕ)) → l ≡ kept_as size p → l.fault ≡ true
-    → no_entry ≡ numbers_as size (and_then p (λ m r. gives (entry_with kind a 0 m) r))
-list-faulty size kind a l (gives m r) e t = conflict t (ap (λ (x : KeptList). x.fault) e)
-list-faulty size kind a l (refuses g) e t = refl
-
-abbrev with_list : ℕ → ℕ → KeptList → Entry
-with_list kind a l = record {
-  fault = false;
-  kind = kind;
-  a = a;
-  b = 0;
-  count = l.count;
-  list = l.list;
-  next = l.next;
-}
-
-pub list-there : (size kind a : ℕ) (l : KeptList) (p : Part (List ℕ)) → l ≡ kept_as size p → l.fault ≡ false
-    → with_list kind a l ≡ numbers_as size (and_then p (λ m r. gives (entry_with kind a 0 m) r))
-list-there size kind a l (gives m r) e t = ap (with_list kind a) e
-list-there size kind a l (refuses g) e t = conflict (ap (λ (x : KeptList). x.fault) e) t
+pub then-none : (size : ℕ) (p : Part Call) (f : Call → List ℕ → Part Call) → None ≡ entry_as size p → None ≡ entry_as size (and_then p f)
+then-none size (gives c r) f q = cc
+then-none size (refuses e) f q = refl
 
 -- ---- the numbers of each kind of call
 
-then-entry : {X : Type 0} (size : ℕ) (p : Part X) (f : X → List ℕ → Part (ℕ → Entry)) (g : X → List ℕ → Part Call)
-    → ((x : X) (r : List ℕ) → numbers_as size (f x r) ≡ entry_as size (g x r))
-    → numbers_as size (and_then p f) ≡ entry_as size (and_then p g)
-then-entry size (gives x r) f g h = h x r
-then-entry size (refuses e) f g h = refl
+-- a number from at on, and then a call of it
+pub one-number : (s : List ℕ) (at v : ℕ) (f : ℕ → Call) → (number_at (drop at s) ≡ gives v (drop (at + 6) s)) × (at + 6 ≤ length s)
+    → Some (call_of (f v), at + 6) ≡ entry_as (length s) (and_then (number_at (drop at s)) (λ a u. gives (f a) u))
+one-number s at v f h = rw (h.0, ← next-at s (at + 6) h.1) refl
 
-module _ (size : ℕ) (r : List ℕ) where
-  pub add-entry : numbers_as size (number_and_list 1 r) ≡ entry_as size (add_at r)
-  unfolding add_at
-  add-entry = then-entry size (number_at r) _ _ (λ a u. then-entry size (list_at u) _ _ (λ l v. refl))
+pub none-there : (s : List ℕ) (at : ℕ) (f : ℕ → List ℕ → Part Call) → number_at (drop at s) ≡ refuses malformed
+    → None ≡ entry_as (length s) (and_then (number_at (drop at s)) f)
+none-there s at f h = rw h refl
 
-  pub withdraw-entry : numbers_as size (one_number 2 r) ≡ entry_as size (withdraw_at r)
-  unfolding withdraw_at
-  withdraw-entry = then-entry size (number_at r) _ _ (λ a u. refl)
+-- a list, and then a call of it
+abbrev with_list : (Instruments → C.Call) → Option (Instruments × ℕ) → Option (C.Call × ℕ)
+with_list g None = None
+with_list g (Some k) = Some (g k.0, k.1)
 
-  pub requalify-entry : numbers_as size (number_and_list 3 r) ≡ entry_as size (requalify_at r)
-  unfolding requalify_at
-  requalify-entry = then-entry size (number_at r) _ _ (λ a u. then-entry size (list_at u) _ _ (λ l v. refl))
-
-  pub move-entry : numbers_as size (two_numbers 4 r) ≡ entry_as size (move_at r)
-  unfolding move_at
-  move-entry = then-entry size (number_at r) _ _ (λ a u. then-entry size (number_at u) _ _ (λ b v. refl))
-
-  pub trial-entry : numbers_as size (one_number 6 r) ≡ entry_as size (trial_at r)
-  unfolding trial_at
-  trial-entry = then-entry size (number_at r) _ _ (λ a u. refl)
-
-  pub balance-entry : numbers_as size (one_number 7 r) ≡ entry_as size (balance_at r)
-  unfolding balance_at
-  balance-entry = then-entry size (number_at r) _ _ (λ a u. refl)
-
-  pub settle-entry : numbers_as size (one_number 8 r) ≡ entry_as size (settle_at r)
-  unfolding settle_at
-  settle-entry = then-entry size (number_at r) _ _ (λ a u. refl)
-
-  pub start-entry : numbers_as size (one_number 9 r) ≡ entry_as size (start_at r)
-  unfolding start_at
-  start-entry = then-entry size (number_at r) _ _ (λ a u. refl)
+pub then-list : (size : ℕ) (o : Option (Instruments × ℕ)) (p : Part (List ℕ)) (g : Instruments → C.Call) (f : List ℕ → Call) → o ≡ list_as size p
+    → ((l : List ℕ) → g (kept l) ≡ call_of (f l)) → with_list g o ≡ entry_as size (and_then p (λ l r. gives (f l) r))
+then-list size o (gives l r) g f q h = ap (with_list g) q ∙ ap (λ (x : C.Call). Some (x, size - length r)) (h l)
+then-list size o (refuses e) g f q h = ap (with_list g) q

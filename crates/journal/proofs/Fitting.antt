@@ -115,13 +115,20 @@ module _ (s : Sheet) (v : Sound s) where
           → Fitting false (answer_numbers (tried (shown (size (book_of s)) t)))
       from (passes q) l p =
           let e = ended (instance (book_of s)) (places (book_of s)) a in
-          let w = trial-permitted (instance (book_of s)) (places (book_of s)) (view-valid s v) (view-permitted s v) (at_level (instance (book_of s)) a) in
+          let w = trial-permitted (instance (book_of s)) (places (book_of s)) (view-valid s v) (view-permitted s v)
+          (at_level (instance (book_of s)) a) in
           let x : List ℕ = take (size (book_of s)) e.assignment in
           let few : length x ≤ size (book_of s) = omega (arith, length-take (size (book_of s)) e.assignment) in
           plain (0 ∷ 1 ∷ e.lifts ∷ e.pushes ∷ x)
           (omega (arith, few, view-batches s v))
           (small-more 0 _ (omega arith) (small-more 1 _ (omega arith) (small-more e.lifts _ l (small-more e.pushes _ p
-          (small_by x (λ b g h. omega (arith, at_front (size (book_of s)) e.assignment b (omega (arith, few)), (on-machine (view-valid s v) w b g (omega (arith, few, batches-first (book_of s)))).1, machines)))))))
+          (small_by x (λ b g h.
+          omega (
+            arith,
+            at_front (size (book_of s)) e.assignment b (omega (arith, few)),
+            (on-machine (view-valid s v) w b g (omega (arith, few, batches-first (book_of s)))).1,
+            machines,
+          )))))))
       from (fails g f) l p =
           let e = ended (instance (book_of s)) (places (book_of s)) a in
           plain (0 ∷ 0 ∷ e.lifts ∷ e.pushes ∷ g)

@@ -1,9 +1,13 @@
 -- A run line by line: the calls that are left, the sheet that the next one gets, and the text of the answers so far.
-use Prim.Native.Nat.{ℕ, suc, ◌+◌, ◌-◌, ◌≤◌, ◌<◌}
+use Prim.Native.Nat.{ℕ, suc, ◌+◌, ◌-◌, ◌≤◌}
 use mathlib.Core.Path.{◌≡◌, refl, sym, ap, ◌∙◌}
 use mathlib.Core.List.{List, [], ◌∷◌, ◌++◌, append_assoc, append-nil}
 use native.Mathlib.Omega.{arith}
-use lib.ListN.{length, take, drop, length-append, replicate}
+use lib.Dec.{leb}
+use lib.ListN.{length, take, drop, length-append, length-drop, replicate}
+use borrow.Author.Tests.{leb-true, leb-false}
+use Rattle.rules.specs.Refusal.{Refusal}
+use Rattle.rules.specs.Read.{refuses}
 use lib.Seq.{take_at, paste}
 use Rattle.rules.specs.Sheet.{Book}
 use Rattle.rules.specs.Run.{Call, answer, next, book_after, answers, answer_numbers}
@@ -15,27 +19,22 @@ use Rattle.sheet.specs.Represent.{Sound, sheet_of, book_of, padded}
 use Rattle.sheet.proofs.Padded.{length-padded}
 use Rattle.sheet.proofs.Represent.{book-sheet, sheet-sound}
 use Rattle.text.proofs.Pasted.{Wrote, wrote_none, wrote-more, wrote-start}
-use Rattle.journal.specs.declared.entry.Entry.{Entry}
-use Rattle.journal.specs.declared.call.Made.{Made}
-use Rattle.journal.specs.Entry.{entry_as, entry_of, lines_from}
-use Rattle.journal.specs.Answering.{call_said, made_of, is_settle, line_of, line_length, Fitting}
-use Rattle.journal.specs.Running.{Spells, text_of, book_left}
-use Rattle.journal.proofs.Calls.{EntryRead, count_kept}
-use Rattle.journal.proofs.Linewise.{journal-is, entry-given, lines-first, lines-fault, lines_end}
-use Rattle.journal.proofs.Said.{made-said}
+use Rattle.journal.specs.declared.run.Turn.{Turn}
+use Rattle.journal.specs.Entry.{lines_from}
+use Rattle.journal.specs.Answering.{Made, made_with, made_of, is_settle, line_of, line_length, said, AnswerFits}
+use Rattle.journal.specs.Running.{Spells, Turned, text_of, book_left}
+use Rattle.journal.proofs.Linewise.{journal-is, lines-first, lines-faulty, lines_end}
 use Rattle.journal.proofs.Fitting.{answer-fits, line-is, line-of-length}
 
 -- ---- what is made of a call
 
 pub record Answered (k : Book) (c : Call) (m : Made) : Type 0 where
   pub sheet : m.sheet ≡ sheet_of (next k c)
-  pub numbers : take m.size m.numbers ≡ answer_numbers (answer k c)
-  pub few : m.size ≤ 632
-  pub whole : m.size ≤ length m.numbers
-  pub long : length (take m.size m.numbers) ≡ m.size
-  pub in_columns : Fitting m.settle (take m.size m.numbers)
-  pub text : line_of m.settle (take m.size m.numbers) ≡ answer_line (answer k c)
-  pub bytes : length (answer_line (answer k c)) ≡ line_length m.settle m.size
+  pub numbers : said m.answer ≡ answer_numbers (answer k c)
+  pub few : m.answer.size ≤ 632
+  pub fits : AnswerFits m.answer
+  pub text : line_of m.answer.settle (said m.answer) ≡ answer_line (answer k c)
+  pub bytes : length (answer_line (answer k c)) ≡ line_length m.answer.settle m.answer.size
 
 module _ (s : Sheet) (v : Sound s) (c : Call) where
   made-is : Answered (book_of s) c (made_of (book_of s) c)
@@ -49,24 +48,19 @@ module _ (s : Sheet) (v : Sound s) (c : Call) where
         sheet = refl;
         numbers = e;
         few = f.few;
-        whole = omega (arith, f.few, length-padded 632 l f.few);
-        long = ap length e;
-        in_columns = rw e f;
+        fits = record { whole = omega (arith, f.few, length-padded 632 l f.few); fitting = rw e f };
         text = rw e (line-is a);
         bytes = ap length (sym (line-is a)) ∙ line-of-length (is_settle a) l f;
       }
 
-  -- of the call of a line
-  pub answered : (e : Entry) (n : ℕ) (m : Made) → e ≡ entry_of c n → m ≡ made_of (book_of s) (call_said e) → Answered (book_of s) c m
-  answered e n m q r =
-      let w : m ≡ made_of (book_of s) c = r ∙ ap (λ (x : Entry). made_of (book_of s) (call_said x)) q ∙ made-said (book_of s) v.book c n in
-      rw w made-is
+  pub answered : (m : Made) → m ≡ made_of (book_of s) c → Answered (book_of s) c m
+  answered m q = rw q made-is
 
-  pub next-sheet : (m : Made) → Answered (book_of s) c m → Sound m.sheet
-  next-sheet m a = rw a.sheet (sheet-sound (next (book_of s) c) (next-sound (book_of s) c v.book))
+  pub next-sheet : (t : Sheet) → t ≡ sheet_of (next (book_of s) c) → Sound t
+  next-sheet t e = rw e (sheet-sound (next (book_of s) c) (next-sound (book_of s) c v.book))
 
-  pub next-book : (m : Made) → Answered (book_of s) c m → book_of m.sheet ≡ next (book_of s) c
-  next-book m a = rw a.sheet (book-sheet (next (book_of s) c) (next-sound (book_of s) c v.book))
+  pub next-book : (t : Sheet) → t ≡ sheet_of (next (book_of s) c) → book_of t ≡ next (book_of s) c
+  next-book t e = rw e (book-sheet (next (book_of s) c) (next-sound (book_of s) c v.book))
 
 -- ---- a run from the book k by the journal j, before the line at at
 
@@ -100,108 +94,104 @@ start-written s v j p = refl
 pub start-wrote : (s : Sheet) (v : Sound s) (j : List ℕ) (p : Spells j) (d : List ℕ) → Wrote d 0 (going_start s v j p).written 0 d
 start-wrote s v j p d = rw (start-written s v j p) (wrote_none d 0 (omega arith))
 
--- the next line
-pub record Turn (j : List ℕ) (at line : ℕ) (left : List Call) (e : Entry) : Type 0 where
-  pub given : EntryRead j at 7 (call_line (drop at j)) e
+-- the lines after a line's call
+pub record Follow (j : List ℕ) (next line : ℕ) (left : List Call) (c : Call) : Type 0 where
   pub rest : List Call
-  pub lines : lines_from (suc line) (drop e.next j) ≡ calls rest
-  pub parts : left ≡ given.call ∷ rest
+  pub lines : lines_from (suc line) (drop next j) ≡ calls rest
+  pub parts : left ≡ c ∷ rest
 
 never : (l : Journal) (i : ℕ) (cs : List Call) → l ≡ faulty i → l ≡ calls cs → ⊥
 never l i cs p q = let z : ◌≡◌ {A = ℕ} 0 1 = cc in omega arith
 
+follow : (j : List ℕ) (next line : ℕ) (left : List Call) (c : Call) (l : Journal) → lines_from (suc line) (drop next j) ≡ l
+    → with_call c l ≡ calls left → Follow j next line left c
+follow j next line left c (calls rest) p q = record { rest = rest; lines = p; parts = cc }
+follow j next line left c (faulty i) p q = absurd (never (faulty i) i left refl q)
+
 module _ {k : Book} {j : List ℕ} {s : Sheet} {at : ℕ} (g : Going k j s at) where
-  turn : (e : Entry) (f : EntryRead j at 7 (call_line (drop at j)) e) (l : Journal) → lines_from (suc g.line) (drop e.next j) ≡ l
-      → with_call f.call l ≡ calls g.left → Turn j at g.line g.left e
-  turn e f (calls rest) p q = record { given = f; rest = rest; lines = p; parts = cc }
-  turn e f (faulty i) p q = absurd (never (faulty i) i g.left refl q)
+  -- a call is made
+  module _ {r : Turn} {t : Sheet} (u : Turned s j at r t) where
+    pub made : Answered (book_of s) u.call (made_with r.answer t)
+    made = answered s g.sound u.call _ u.same
 
-  pub next-line : (e : Entry) → e ≡ entry_as (length j) (call_line (drop at j)) → at < length j → Turn j at g.line g.left e
-  next-line e q h =
-      by_test e.fault
-      (λ t. absurd (never _ g.line g.left (lines-fault j at e q g.line h t) g.lines))
-      (λ t. let f = entry-given j at e q g.room t in
-      turn e f (lines_from (suc g.line) (drop e.next j)) refl (sym (lines-first j at e q g.line f) ∙ g.lines))
+    pub follows : Follow j r.next g.line g.left u.call
+    follows =
+        follow j r.next g.line g.left u.call (lines_from (suc g.line) (drop r.next j)) refl
+        (sym (lines-first j at g.line r.next u.call u.part (omega (arith, u.past)) u.room) ∙ g.lines)
 
-  pub turn-few : (e : Entry) → Turn j at g.line g.left e → e.count ≤ length e.list
-  turn-few e t = rw t.given.same (count_kept t.given.call e.next)
-
-  module _ (e : Entry) (t : Turn j at g.line g.left e) (m : Made) (a : Answered (book_of s) t.given.call m) where
     -- its answer stands behind what is written
     pub turn-whole : text_of k (journal j)
-        ≡ g.written ++ (answer_line (answer (book_of s) t.given.call) ++ answer_lines (answers (book_of m.sheet) t.rest))
+        ≡ g.written ++ (answer_line (answer (book_of s) u.call) ++ answer_lines (answers (book_of t) follows.rest))
     unfolding answers answer_lines
     turn-whole =
-        let c = t.given.call in
-        let b : book_of m.sheet ≡ next (book_of s) c = next-book s g.sound c m a in
         g.whole
-        ∙ ap (λ (cs : List Call). g.written ++ answer_lines (answers (book_of s) cs)) t.parts
-        ∙ ap (λ (z : Book). g.written ++ (answer_line (answer (book_of s) c) ++ answer_lines (answers z t.rest))) (sym b)
+        ∙ ap (λ (cs : List Call). g.written ++ answer_lines (answers (book_of s) cs)) follows.parts
+        ∙ ap (λ (z : Book). g.written ++ (answer_line (answer (book_of s) u.call) ++ answer_lines (answers z follows.rest)))
+        (sym (next-book s g.sound u.call t made.sheet))
 
     -- and the last sheet is the same
-    pub turn-after : book_left k (journal j) ≡ book_after (book_of m.sheet) t.rest
+    pub turn-after : book_left k (journal j) ≡ book_after (book_of t) follows.rest
     unfolding book_after
     turn-after =
         g.after
-        ∙ ap (book_after (book_of s)) t.parts
-        ∙ ap (λ (z : Book). book_after z t.rest) (sym (next-book s g.sound t.given.call m a))
+        ∙ ap (book_after (book_of s)) follows.parts
+        ∙ ap (λ (z : Book). book_after z follows.rest) (sym (next-book s g.sound u.call t made.sheet))
 
-    unfoldable pub going_on : Going k j m.sheet e.next
-    going_on =
-        let c = t.given.call in
-        record {
-          sound = next-sheet s g.sound c m a;
-          room = t.given.room;
-          line = suc g.line;
-          left = t.rest;
-          lines = t.lines;
-          written = g.written ++ answer_line (answer (book_of s) c);
-          whole =
-              turn-whole
-              ∙ sym (append_assoc g.written (answer_line (answer (book_of s) c)) (answer_lines (answers (book_of m.sheet) t.rest)));
-          after = turn-after;
-        }
+    unfoldable pub going_on : Going k j t r.next
+    going_on = record {
+      sound = next-sheet s g.sound u.call t made.sheet;
+      room = u.room;
+      line = suc g.line;
+      left = follows.rest;
+      lines = follows.lines;
+      written = g.written ++ answer_line (answer (book_of s) u.call);
+      whole =
+          turn-whole
+          ∙ sym (append_assoc g.written (answer_line (answer (book_of s) u.call)) (answer_lines (answers (book_of t) follows.rest)));
+      after = turn-after;
+    }
 
-    pub turn-written : length going_on.written ≡ length g.written + line_length m.settle m.size
+    pub turn-written : length going_on.written ≡ length g.written + line_length r.answer.settle r.answer.size
     unfolding going_on
-    turn-written =
-        let l = answer_line (answer (book_of s) t.given.call) in
-        omega (arith, length-append g.written l, a.bytes)
+    turn-written = omega (arith, length-append g.written (answer_line (answer (book_of s) u.call)), made.bytes)
 
     -- its line behind the lines before it
     pub turn-wrote : {d e₁ e₂ : List ℕ} {to n : ℕ} → Wrote d 0 g.written to e₁
-        → length g.written + line_length m.settle m.size ≤ length d → n ≡ to + line_length m.settle m.size
-        → e₂ ≡ paste e₁ to (line_of m.settle (take m.size m.numbers)) (line_length m.settle m.size)
+        → length g.written + line_length r.answer.settle r.answer.size ≤ length d → n ≡ to + line_length r.answer.settle r.answer.size
+        → e₂ ≡ paste e₁ to (line_of r.answer.settle (said r.answer)) (line_length r.answer.settle r.answer.size)
         → Wrote d 0 going_on.written n e₂
     unfolding going_on
-    turn-wrote {to = to} {n = n} w r q f =
-        let l = answer_line (answer (book_of s) t.given.call) in
+    turn-wrote {to = to} {n = n} w x q f =
+        let l = answer_line (answer (book_of s) u.call) in
         let z : to ≡ 0 + to = omega arith in
-        wrote-more l to (line_length m.settle m.size) n w z q a.bytes (omega (arith, w.size)) (rw a.text at f)
+        wrote-more l to (line_length r.answer.settle r.answer.size) n w z q made.bytes (omega (arith, w.size)) (rw made.text at f)
 
     -- it fits where the whole text does
-    pub turn-room : length g.written + line_length m.settle m.size ≤ length (text_of k (journal j))
+    pub turn-room : length g.written + line_length r.answer.settle r.answer.size ≤ length (text_of k (journal j))
     turn-room =
-        let l = answer_line (answer (book_of s) t.given.call) in
-        let r = answer_lines (answers (book_of m.sheet) t.rest) in
-        omega (arith, ap length turn-whole, length-append g.written (l ++ r), length-append l r, a.bytes)
+        let l = answer_line (answer (book_of s) u.call) in
+        let m = answer_lines (answers (book_of t) follows.rest) in
+        omega (arith, ap length turn-whole, length-append g.written (l ++ m), length-append l m, made.bytes)
 
-  -- no line is left
-  none_left : length j ≤ at → g.left ≡ []
-  none_left h = none g.left (sym g.lines ∙ lines_end j at g.line h)
-    where
-      none : (cs : List Call) → calls cs ≡ calls [] → cs ≡ []
-      none cs e = cc
+  -- no call is left
+  module _ (e : Refusal) (q : call_line (drop at j) ≡ refuses e) where
+    none_left : g.left ≡ []
+    none_left = by_test (leb (length j) at)
+        (λ t. none g.left (sym g.lines ∙ lines_end j at g.line (leb-true (length j) at t)))
+        (λ t. absurd (never _ g.line g.left
+        (lines-faulty g.line (drop at j) e q (omega (arith, leb-false (length j) at t, length-drop at j))) g.lines))
+      where
+        none : (cs : List Call) → calls cs ≡ calls [] → cs ≡ []
+        none cs e = cc
 
-  pub going_end : length j ≤ at → text_of k (journal j) ≡ g.written
-  unfolding answers answer_lines
-  going_end h =
-      g.whole ∙ ap (λ (cs : List Call). g.written ++ answer_lines (answers (book_of s) cs)) (none_left h) ∙ append-nil g.written
+    pub going_end : text_of k (journal j) ≡ g.written
+    unfolding answers answer_lines
+    going_end = g.whole ∙ ap (λ (cs : List Call). g.written ++ answer_lines (answers (book_of s) cs)) none_left ∙ append-nil g.written
 
-  pub end-sheet : length j ≤ at → s ≡ sheet_of (book_left k (journal j))
-  unfolding book_after
-  end-sheet h = sym g.sound.arrays ∙ ap sheet_of (sym (g.after ∙ ap (book_after (book_of s)) (none_left h)))
+    pub end-sheet : s ≡ sheet_of (book_left k (journal j))
+    unfolding book_after
+    end-sheet = sym g.sound.arrays ∙ ap sheet_of (sym (g.after ∙ ap (book_after (book_of s)) none_left))
 
-  pub end-wrote : {d e : List ℕ} {to : ℕ} → length j ≤ at → Wrote d 0 g.written to e
-      → (to ≡ length (text_of k (journal j))) × (e ≡ text_of k (journal j) ++ drop to d)
-  end-wrote h w = (omega (arith, w.size, ap length (going_end h)), wrote-start w (sym (going_end h)))
+    pub end-wrote : {d e : List ℕ} {to : ℕ} → Wrote d 0 g.written to e
+        → (to ≡ length (text_of k (journal j))) × (e ≡ text_of k (journal j) ++ drop to d)
+    end-wrote w = (omega (arith, w.size, ap length going_end), wrote-start w (sym going_end))

@@ -12,18 +12,21 @@ use Rattle.rules.specs.Read.{Part, gives, refuses, Reading, accepted, refused_at
 use Rattle.rules.specs.Run.{Call, book_after}
 use Rattle.rules.specs.Lent.{text, refusal, into_buffer}
 use Rattle.rules.specs.Journal.{Journal, calls, faulty, with_call, on_call, call_line, lines_by, journal, run_due, answer_text, run_host, sheet_text, write_host}
-use Rattle.theory.proofs.Refusal.{number-range}
+use Rattle.std.proofs.Common.{Some, None, Ok, Err}
 use Rattle.theory.proofs.Sound.{read-sound}
 use Rattle.theory.proofs.Runs.{Throughout, run-claims}
 use Rattle.sheet.specs.declared.Sheet.{Sheet}
-use Rattle.sheet.specs.declared.Reading as D
+use Rattle.sheet.specs.declared.Fault.{Fault}
 use Rattle.sheet.specs.Represent.{Sound, sheet_of, book_of}
-use Rattle.sheet.specs.Answers.{number_of}
-use Rattle.sheet.proofs.Accepted.{Accepted, Refused}
+use Rattle.sheet.specs.Answers.{coded, coded-number, read_as}
+use Rattle.sheet.specs.Answers as S
+use Rattle.sheet.proofs.Accepted.{Accepted}
 use Rattle.sheet.proofs.Represent.{book-sheet, sheet-sound}
-use Rattle.journal.specs.declared.run.Left.{Left}
+use Rattle.text.specs.Answer.{hosted_of}
+use Rattle.journal.specs.declared.run.Refused.{Refused}
+use Rattle.journal.specs.declared.run.Refused.TheVariants.{BadSheet, BadJournal}
 use Rattle.journal.specs.Entry.{fault_of}
-use Rattle.journal.specs.Running.{Spells, text_of, book_left, no_sheet, left_as, book_before, judged_of, left_of}
+use Rattle.journal.specs.Running.{Spells, text_of, book_left, told, left_as, book_before, judged_of, left_of}
 
 -- ---- a fault's line is one of 1 to m
 
@@ -56,97 +59,102 @@ pub journal-numbered : (j : List ℕ) → Numbered (length j + 1) (journal j)
 unfolding journal
 journal-numbered j = lines-numbered (length j) 1 j (omega arith) (omega arith)
 
-pub spells : (j : List ℕ) → fault_of (journal j) ≡ 0 → Spells j
-spells j e = from (journal-numbered j) refl e
+-- a journal with no fault is of the form
+pub spells : (j : List ℕ) → None ≡ fault_of (journal j) → Spells j
+spells j e = from (journal j) refl e
   where
-    from : {l : Journal} → Numbered (length j + 1) l → journal j ≡ l → fault_of l ≡ 0 → Spells j
-    from (formed cs) q e = record { made = cs; same = q }
-    from (fault i h n) q e = absurd (omega arith)
+    from : (l : Journal) → journal j ≡ l → None ≡ fault_of l → Spells j
+    from (calls cs) q e = record { made = cs; same = q }
+    from (faulty i) q e = cc
 
 -- ---- what a sheet's bytes and a journal's come to
 
 module _ (f : Book → List Call → Book) (s j : List ℕ) where
   -- the sheet is refused
-  pub left-unread : (r : D.Reading) (c : ℕ) → Refused (read s) r → c ≡ number_of r.refusal → no_sheet c r.line ≡ left_as f (read s) (journal j)
-  left-unread r c h e = rw (h.said, e, h.coded)
+  pub left-unread : (g : Fault) → Err g ≡ read_as (read s) → Err (BadSheet g) ≡ left_as f (read s) (journal j)
+  left-unread g e = from (read s) e
+    where
+      from : (o : Reading) → Err g ≡ read_as o → Err (BadSheet g) ≡ left_as f o (journal j)
+      from (accepted k) q = cc
+      from (refused_at e i) q = let w : g ≡ S.fault (coded e) i = cc in rw w refl
 
   -- the journal is
-  pub left-faulty : (r : D.Reading) (i : ℕ) → Accepted (read s) r → i ≡ fault_of (journal j) → (i ≡ 0 → ⊥)
-      → no_sheet 19 i ≡ left_as f (read s) (journal j)
-  left-faulty r i a e n = rw a.book (from (journal j) e)
+  pub left-faulty : (t : Sheet) (i : ℕ) → Accepted (read s) t → Some i ≡ fault_of (journal j) → Err (BadJournal i) ≡ left_as f (read s) (journal j)
+  left-faulty t i a e = rw a.book (from (journal j) e)
     where
-      from : (l : Journal) → i ≡ fault_of l → no_sheet 19 i ≡ left_as f (accepted (book_of r.sheet)) l
-      from (calls cs) q = absurd (n q)
-      from (faulty m) q = rw q
+      from : (l : Journal) → Some i ≡ fault_of l → Err (BadJournal i) ≡ left_as f (accepted (book_of t)) l
+      from (calls cs) q = cc
+      from (faulty m) q = let w : i ≡ m = cc in rw w refl
 
   -- neither is
-  pub left-good : (r : D.Reading) (t : Sheet) (p : Spells j) → Accepted (read s) r → t ≡ sheet_of (f (book_of r.sheet) p.made)
-      → record { refusal = 0; line = 0; sheet = t } ≡ left_as f (read s) (journal j)
-  left-good r t p a e = rw (a.book, p.same, e)
+  pub left-good : (t u : Sheet) (p : Spells j) → Accepted (read s) t → u ≡ sheet_of (f (book_of t) p.made) → Ok u ≡ left_as f (read s) (journal j)
+  left-good t u p a e = rw (a.book, p.same, e) refl
 
   -- and what it means: a refusal is due, whatever text would have been
-  pub left-refused : (g : Book → List Call → List ℕ) (r : Left) → r ≡ left_as f (read s) (journal j) → (r.refusal ≡ 0 → ⊥)
-      → run_due g (read s) (journal j) ≡ refusal r.refusal r.line
-  left-refused g r e n = from (read s) (journal j) e
+  pub left-refused : (g : Book → List Call → List ℕ) (e : Refused) → Err e ≡ left_as f (read s) (journal j)
+      → run_due g (read s) (journal j) ≡ refusal (told e).refusal (told e).line
+  left-refused g e q = from (read s) (journal j) q
     where
-      from : (o : Reading) (l : Journal) → r ≡ left_as f o l → run_due g o l ≡ refusal r.refusal r.line
-      from (accepted k) (calls cs) q = absurd (n (ap (λ (x : Left). x.refusal) q))
-      from (accepted k) (faulty i) q = rw q
-      from (refused_at e i) l q = rw q
+      from : (o : Reading) (l : Journal) → Err e ≡ left_as f o l → run_due g o l ≡ refusal (told e).refusal (told e).line
+      from (accepted k) (calls cs) q = cc
+      from (accepted k) (faulty i) q = let w : e ≡ BadJournal i = cc in rw w refl
+      from (refused_at r i) l q = let w : e ≡ BadSheet (S.fault (coded r) i) = cc in rw (w, coded-number r) refl
 
   -- or there are a book and calls
-  pub record Went (r : Left) : Type 0 where
+  pub record Went (t : Sheet) : Type 0 where
     pub book : Book
     pub file : read s ≡ accepted book
     pub calls : Spells j
-    pub sheet : r.sheet ≡ sheet_of (f book calls.made)
+    pub sheet : t ≡ sheet_of (f book calls.made)
 
-  pub left-went : (r : Left) → r ≡ left_as f (read s) (journal j) → r.refusal ≡ 0 → Went r
-  left-went r e z = from (read s) (journal j) refl refl e
+  pub left-went : (t : Sheet) → Ok t ≡ left_as f (read s) (journal j) → Went t
+  left-went t e = from (read s) (journal j) refl refl e
     where
-      from : (o : Reading) (l : Journal) → read s ≡ o → journal j ≡ l → r ≡ left_as f o l → Went r
-      from (accepted k) (calls cs) p q h =
-          record { book = k; file = p; calls = record { made = cs; same = q }; sheet = ap (λ (x : Left). x.sheet) h }
-      from (accepted k) (faulty i) p q h = absurd (omega (arith, ap (λ (x : Left). x.refusal) h))
-      from (refused_at g i) l p q h = absurd (omega (arith, ap (λ (x : Left). x.refusal) h, (number-range g).0))
+      from : (o : Reading) (l : Journal) → read s ≡ o → journal j ≡ l → Ok t ≡ left_as f o l → Went t
+      from (accepted k) (calls cs) p q h = record { book = k; file = p; calls = record { made = cs; same = q }; sheet = cc }
+      from (accepted k) (faulty i) p q h = cc
+      from (refused_at g i) l p q h = cc
 
 -- ---- before the first call
 
-module _ (s j : List ℕ) (r : Left) (e : r ≡ judged_of s j) where
+module _ (s j : List ℕ) where
   -- a refusal
-  pub run-refused : (buffer : List ℕ) → (r.refusal ≡ 0 → ⊥)
-      → record { refusal = r.refusal; line = r.line; length = 0; buffer = buffer } ≡ run_host s j buffer
+  pub run-refused : (e : Refused) (buffer : List ℕ) → Err e ≡ judged_of s j → hosted_of (told e) buffer ≡ run_host s j buffer
   unfolding judged_of run_host into_buffer
-  run-refused buffer n = rw (left-refused book_before s j answer_text r e n)
-
-  pub refused-left : (r.refusal ≡ 0 → ⊥) → r ≡ left_of s j
-  unfolding judged_of left_of
-  refused-left n = from (read s) (journal j) e
+  run-refused e buffer q = rw (left-refused book_before s j answer_text e q) (from e)
     where
-      from : (o : Reading) (l : Journal) → r ≡ left_as book_before o l → r ≡ left_as book_after o l
-      from (accepted k) (calls cs) q = absurd (n (ap (λ (x : Left). x.refusal) q))
+      from : (e : Refused) → hosted_of (told e) buffer ≡ record { refusal = (told e).refusal; line = (told e).line; length = 0; buffer = buffer }
+      from (BadSheet f) = refl
+      from (BadJournal i) = refl
+
+  pub refused-left : (e : Refused) → Err e ≡ judged_of s j → Err e ≡ left_of s j
+  unfolding judged_of left_of
+  refused-left e q = from (read s) (journal j) q
+    where
+      from : (o : Reading) (l : Journal) → Err e ≡ left_as book_before o l → Err e ≡ left_as book_after o l
+      from (accepted k) (calls cs) q = cc
       from (accepted k) (faulty i) q = q
       from (refused_at g i) l q = q
 
   -- none: the sheet is that of the file's book
-  went : r.refusal ≡ 0 → Went book_before s j r
-  unfolding judged_of
-  went z = left-went book_before s j r e z
+  module _ (t : Sheet) (e : Ok t ≡ judged_of s j) where
+    went : Went book_before s j t
+    unfolding judged_of
+    went = left-went book_before s j t e
 
-  pub went-sound : r.refusal ≡ 0 → Sound r.sheet × Spells j
-  went-sound z = let w = went z in (rw w.sheet (sheet-sound w.book (read-sound s w.book w.file)), w.calls)
+    pub went-sound : Sound t × Spells j
+    went-sound = let w = went in (rw w.sheet (sheet-sound w.book (read-sound s w.book w.file)), w.calls)
 
-  went-book : (w : Went book_before s j r) → book_of r.sheet ≡ w.book
-  went-book w = ap book_of w.sheet ∙ book-sheet w.book (read-sound s w.book w.file)
+    went-book : (w : Went book_before s j t) → book_of t ≡ w.book
+    went-book w = ap book_of w.sheet ∙ book-sheet w.book (read-sound s w.book w.file)
 
-  pub run-went : (buffer : List ℕ) → r.refusal ≡ 0 → into_buffer (text (text_of (book_of r.sheet) (journal j))) buffer ≡ run_host s j buffer
-  unfolding run_host text_of
-  run-went buffer z = let w = went z in rw (went-book w, w.file, w.calls.same)
+    pub run-went : (buffer : List ℕ) → into_buffer (text (text_of (book_of t) (journal j))) buffer ≡ run_host s j buffer
+    unfolding run_host text_of
+    run-went buffer = let w = went in rw (went-book w, w.file, w.calls.same)
 
-  pub went-left : r.refusal ≡ 0 → (t : Sheet) → t ≡ sheet_of (book_left (book_of r.sheet) (journal j))
-      → record { refusal = 0; line = 0; sheet = t } ≡ left_of s j
-  unfolding left_of book_left
-  went-left z t q = let w = went z in rw (q, went-book w, w.file, w.calls.same)
+    pub went-left : (u : Sheet) → u ≡ sheet_of (book_left (book_of t) (journal j)) → Ok u ≡ left_of s j
+    unfolding left_of book_left
+    went-left u q = let w = went in rw (q, went-book w, w.file, w.calls.same) refl
 
 -- ---- a sheet that is read as k, and a journal that spells cs
 

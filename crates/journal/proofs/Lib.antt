@@ -1,7 +1,7 @@
 pub mod Numbers
 pub mod Calls
 pub mod Linewise
-pub mod Entering
+pub mod Extending
 pub mod Said
 pub mod Replies
 pub mod Recording

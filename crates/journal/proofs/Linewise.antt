@@ -1,7 +1,6 @@
 -- A journal line by line: the lines from a place on are the line there, and then those from its end on.
 use Prim.Native.Nat.{ℕ, zero, suc, ◌-◌, ◌≤◌, ◌<◌}
 use mathlib.Core.Path.{◌≡◌, refl, ap, ◌∙◌}
-use mathlib.Core.Bool.{true, false}
 use mathlib.Core.List.{List, [], ◌∷◌}
 use native.Mathlib.Omega.{arith}
 use lib.Dec.{eqb}
@@ -12,10 +11,10 @@ use Rattle.rules.specs.Refusal.{Refusal}
 use Rattle.rules.specs.Read.{Part, gives, refuses}
 use Rattle.rules.specs.Run.{Call}
 use Rattle.rules.specs.Journal.{call_line, Journal, calls, faulty, with_call, on_call, lines_by, journal}
-use Rattle.theory.proofs.Logic.{conflict}
-use Rattle.journal.specs.declared.entry.Entry.{Entry}
+use Rattle.std.proofs.Common.{Some, None}
+use Rattle.journal.specs.declared.entry.Call as C
 use Rattle.journal.specs.Entry.{entry_as, lines_from, fault_of}
-use Rattle.journal.proofs.Calls.{Leaves, refuse, give, line-leaves, EntryRead, given, fault-of}
+use Rattle.journal.proofs.Calls.{Leaves, refuse, give, line-leaves, CallRead, given, refused}
 
 -- ---- as many turns as there are bytes are enough
 
@@ -64,25 +63,22 @@ journal-is s = refl
 
 -- ---- from a place of s on, as the reader of a line gives it
 
-module _ (s : List ℕ) (at : ℕ) (e : Entry) (q : e ≡ entry_as (length s) (call_line (drop at s))) where
+module _ (s : List ℕ) (at : ℕ) where
   -- the line at at, with its call and its end
-  pub entry-given : at ≤ length s → e.fault ≡ false → EntryRead s at 7 (call_line (drop at s)) e
-  entry-given h t = given s at 7 (call_line (drop at s)) e h (line-leaves (drop at s)) q t
+  pub line-read : (e : C.Call) (n : ℕ) → Some (e, n) ≡ entry_as (length s) (call_line (drop at s)) → at ≤ length s → CallRead s at 7
+      (call_line (drop at s)) e n
+  line-read e n q h = given s at 7 (call_line (drop at s)) e n h (line-leaves (drop at s)) q
 
   -- the lines from there on are it and the lines from its end on
-  pub lines-first : (j : ℕ) (g : EntryRead s at 7 (call_line (drop at s)) e)
-      → lines_from j (drop at s) ≡ with_call g.call (lines_from (suc j) (drop e.next s))
-  lines-first j g =
-      lines_more j (drop at s) (drop e.next s) g.call g.part
-      (omega (arith, g.past, g.room, length-drop at s, length-drop e.next s))
+  pub lines-first : (j n : ℕ) (c : Call) → call_line (drop at s) ≡ gives c (drop n s) → at < n → n ≤ length s
+      → lines_from j (drop at s) ≡ with_call c (lines_from (suc j) (drop n s))
+  lines-first j n c p h l = lines_more j (drop at s) (drop n s) c p (omega (arith, length-drop at s, length-drop n s))
 
   -- it is not of the form
-  pub lines-fault : (j : ℕ) → at < length s → e.fault ≡ true → lines_from j (drop at s) ≡ faulty j
-  lines-fault j h t = from (call_line (drop at s)) refl q
-    where
-      from : (p : Part Call) → call_line (drop at s) ≡ p → e ≡ entry_as (length s) p → lines_from j (drop at s) ≡ faulty j
-      from (gives c r) w d = conflict t (ap (λ (x : Entry). x.fault) d ∙ fault-of c (length s - length r))
-      from (refuses g) w d = lines-faulty j (drop at s) g w (omega (arith, length-drop at s))
+  pub lines-fault : (j : ℕ) → None ≡ entry_as (length s) (call_line (drop at s)) → at < length s → lines_from j (drop at s) ≡ faulty j
+  lines-fault j q h =
+      let f = refused (length s) (call_line (drop at s)) q in
+      lines-faulty j (drop at s) f.0 f.1 (omega (arith, length-drop at s))
 
 -- no line is left
 pub lines_end : (s : List ℕ) (at j : ℕ) → length s ≤ at → lines_from j (drop at s) ≡ calls []

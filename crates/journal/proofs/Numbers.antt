@@ -1,29 +1,16 @@
 -- Reading a list: the numbers so far, the first 25 of them kept, and what is left goes on from them as the rules do.
 use Prim.Native.Nat.{ℕ, suc, ◌+◌, ◌-◌, ◌≤◌, ◌<◌}
 use mathlib.Core.Path.{◌≡◌, refl, sym, ap, ◌∙◌}
-use mathlib.Core.Bool.{false}
 use mathlib.Core.List.{List, [], ◌∷◌, ◌++◌, append_assoc, append-nil}
 use native.Mathlib.Omega.{arith}
-use lib.Dec.{ltb}
-use lib.ListN.{length, take, drop, length-append}
-use lib.Seq.{take_all, length-take-le}
-use borrow.Author.Tests.{ltb-true, ltb-false}
-use Rattle.rules.specs.Fold.{pick}
+use lib.ListN.{length, take, drop, length-append, length-take}
+use Rattle.std.proofs.Common.{Some, None, min}
 use Rattle.rules.specs.Refusal.{malformed}
 use Rattle.rules.specs.Read.{Part, gives, refuses, and_then, number_at}
 use Rattle.rules.specs.Journal.{numbers_at}
-use Rattle.theory.proofs.Logic.{by_test}
 use Rattle.sheet.specs.Represent.{firsts}
 use Rattle.fields.proofs.Reading.{next-at}
-use Rattle.journal.specs.declared.entry.KeptList.{KeptList}
-use Rattle.journal.specs.Entry.{no_kept, kept_as}
-
--- how many the first 25 of a list are
-pub count-first : (l : List ℕ) (k : ℕ) → length l ≡ k → pick (ltb k 25) k 25 ≡ length (take 25 l)
-count-first l k e =
-    by_test (ltb k 25)
-    (λ t. rw t (omega (arith, ap length (take_all 25 l (omega (arith, ltb-true k 25 t))))))
-    (λ t. rw t (sym (length-take-le 25 l (omega (arith, ltb-false k 25 t)))))
+use Rattle.journal.specs.Entry.{list_as}
 
 -- ---- k of the c numbers from at on are read, up to next
 
@@ -70,7 +57,7 @@ module _ (s : List ℕ) (at c : ℕ) where
         ap (λ (i : ℕ). after f.numbers (numbers_at i (drop next s))) (sym e) ∙ f.rest
 
     -- the next number is missing
-    pub then-missing : k < c → number_at (drop next s) ≡ refuses malformed → no_kept ≡ kept_as (length s) (numbers_at c (drop at s))
+    pub then-missing : k < c → number_at (drop next s) ≡ refuses malformed → None ≡ list_as (length s) (numbers_at c (drop at s))
     then-missing h e = rw (← turn h, e)
 
     -- one number more
@@ -89,16 +76,15 @@ module _ (s : List ℕ) (at c : ℕ) where
         }
 
     -- all are read
-    pub all_read : (kept : ℕ) → c ≤ k → kept ≡ pick (ltb c 25) c 25
-        → record { fault = false; count = kept; list = list; next = next } ≡ kept_as (length s) (numbers_at c (drop at s))
+    pub all_read : c ≤ k → Some (record { count = min c 25; numbers = list }, next) ≡ list_as (length s) (numbers_at c (drop at s))
     unfolding numbers_at
-    all_read kept h e =
+    all_read h =
         let z : c - k ≡ 0 = omega arith in
         let q : after f.numbers (numbers_at 0 (drop next s)) ≡ numbers_at c (drop at s) =
         ap (λ (i : ℕ). after f.numbers (numbers_at i (drop next s))) (sym z) ∙ f.rest in
         let p : gives f.numbers (drop next s) ≡ numbers_at c (drop at s) =
         ap (λ (l : List ℕ). gives l (drop next s)) (sym (append-nil f.numbers)) ∙ q in
-        let n : kept ≡ length (take 25 f.numbers) = e ∙ count-first f.numbers c (omega (arith, f.count, f.few)) in
-        let made : KeptList = record { fault = false; count = kept; list = list; next = next } in
-        let u : made ≡ kept_as (length s) (gives f.numbers (drop next s)) = rw (n, f.same, ← next-at s next f.room) in
-        u ∙ ap (kept_as (length s)) p
+        let n : min c 25 ≡ length (take 25 f.numbers) = omega (arith, length-take 25 f.numbers, f.count, f.few) in
+        let u : Some (record { count = min c 25; numbers = list }, next) ≡ list_as (length s) (gives f.numbers (drop next s)) =
+        rw (n, f.same, ← next-at s next f.room) refl in
+        u ∙ ap (list_as (length s)) p

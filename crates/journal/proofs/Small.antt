@@ -5,7 +5,8 @@ use mathlib.Core.Bool.{true}
 use mathlib.Core.List.{List, [], ◌∷◌}
 use native.Mathlib.Omega.{arith}
 use lib.Dec.{ltb}
-use lib.ListN.{length, get_or}
+use lib.ListN.{length}
+use Rattle.std.specs.Prelude.{All}
 use borrow.Author.Tests.{ltb-true, lt-ltb}
 use Rattle.rules.specs.Fold.{every, at, mem, list_to}
 use Rattle.theory.proofs.Logic.{and-mk}
@@ -23,8 +24,9 @@ small-more x l h s = and-mk _ _ (lt-ltb x 1000000 h) s
 pub small_one : (x : ℕ) → x < 1000000 → SixColumns (x ∷ [])
 small_one x h = small-more x [] h small-none
 
-pub small_at : (l : List ℕ) (k : ℕ) → SixColumns l → k < length l → get_or l k 0 < 1000000
-small_at l k s h = ltb-true _ _ (every-at (λ (x : ℕ). ltb x 1000000) l 0 k s h)
+-- as the writers of fields ask it, of numbers that are what they convert to
+pub small-all : (l : List ℕ) → SixColumns l → All (λ x. (v : ℕ) → v ≡ x → v < 1000000) l
+small-all l s k d h v e = omega (arith, ltb-true _ _ (every-at (λ (x : ℕ). ltb x 1000000) l d k s h), e)
 
 -- f 1, .., f k
 pub small-to : (k : ℕ) (f : ℕ → ℕ) → ((i : ℕ) → f i < 1000000) → SixColumns (list_to k f)

@@ -15,11 +15,9 @@ pub fn print(sheet: &[u8], journal: &[u8], out: &mut [u8]) -> usize
         ≡ printed_of (run_host sheet.now journal.now out.old) }
 {
     let r = run_into(sheet, journal, out);
-    let number = r.refusal;
-    if number == 0 {
+    if r.refusal == 0 {
         return r.length;
     }
-    let line = r.line as u32;
-    put_pair(out, number, line);
+    put_pair(out, r.refusal, r.line as u32);
     13
 }

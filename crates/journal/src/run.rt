@@ -4,119 +4,125 @@ ghost use Rattle.rules.specs.Lent.{text, into_buffer};
 ghost use Rattle.rules.specs.Journal.{journal as journal_of, run_host};
 ghost use Rattle.sheet.specs.Represent.{Sound, book_of, sheet_of};
 ghost use Rattle.text.specs.Answer.{hosted_of};
-ghost use Rattle.journal.specs.Running.{Spells, text_of, book_left, no_sheet, judged_of, left_of};
+ghost use Rattle.journal.specs.Running.{Spells, TurnAt, text_of, book_left, told, judged_of, left_of};
+ghost use Rattle.journal.specs.declared.run.Refused.TheVariants.{BadSheet};
 
-use crate::answer::{line_length, put_answer};
+use crate::answer::Answer;
 use crate::call::make;
 use crate::entry::{entry_at, fault_line};
 use reading::read;
-use sheet::{Refusal, Sheet, code};
+use sheet::{Fault, Refusal, Sheet};
 use text::Hosted;
 
-// What a sheet's bytes and a journal's come to: a sheet, or a refusal with its line and the blank value.
-#[derive(Clone, Copy)]
-pub struct Left {
-    pub refusal: u32,
-    pub line: usize,
-    pub sheet: Sheet,
+// Why no call is made: a sheet's fault, or the first line of the journal that is not of the form.
+#[derive(Clone, Copy, Debug, PartialEq, Eq)]
+pub enum Refused {
+    BadSheet(Fault),
+    BadJournal(usize),
 }
 
-// No sheet: a refusal and its line.
-fn refused(refusal: u32, line: usize) -> Left
-    ensures { result ≡ no_sheet refusal line }
-{
-    let sheet = Sheet::new();
-    Left {
-        refusal,
-        line,
-        sheet,
+impl From<Fault> for Refused {
+    ghost from_gives = { λ fault refused. refused ≡ BadSheet fault };
+
+    fn from(fault: Fault) -> Refused {
+        Self::BadSheet(fault)
+    }
+}
+
+// Its number and its line. A journal's is 19.
+impl From<Refused> for Hosted {
+    ghost from_gives = { λ refused hosted. hosted ≡ told refused };
+
+    fn from(refused: Refused) -> Hosted {
+        let (refusal, line) = match refused {
+            Refused::BadSheet(fault) => (fault.refusal.into(), fault.line),
+            Refused::BadJournal(line) => (19, line),
+        };
+        Hosted {
+            refusal,
+            line,
+            length: 0,
+        }
     }
 }
 
 // Reads a sheet of any bytes and judges a journal of any bytes, whole, before its first call is made. The sheet is as it is read. A
-// refusal of the sheet comes before one of the journal, which is 19, with its line.
-fn judged(sheet: &[u8], journal: &[u8]) -> Left
+// refusal of the sheet comes before one of the journal.
+fn judged(sheet: &[u8], journal: &[u8]) -> Result<Sheet, Refused>
     ensures { result ≡ judged_of sheet.now journal.now }
 {
-    let r = read(sheet);
-    let e = r.refusal;
-    let Refusal::Nothing = e else {
-        return refused(code(e), r.line);
-    };
-    let line = fault_line(journal);
-    if line != 0 {
-        return refused(19, line);
-    }
-    let s = r.sheet;
-    Left {
-        refusal: 0,
-        line: 0,
-        sheet: s,
+    let sheet = read(sheet)?;
+    match fault_line(journal) {
+        Some(line) => Err(Refused::BadJournal(line)),
+        None => Ok(sheet),
     }
 }
 
+// The answer to a line's call, and where the next line starts.
+#[derive(Clone, Copy)]
+struct Turn {
+    answer: Answer,
+    next: usize,
+}
+
+// Makes the call of the line at at, where there is one: a turn of each loop below. What a loop does with an answer differs in its state, so
+// none is plainer with a closure.
+fn turn_at(sheet: &mut Sheet, journal: &[u8], at: usize) -> Option<Turn>
+    requires { Sound sheet.old × (at ≤ length journal.now) }
+    ensures { TurnAt sheet.old journal.now at result sheet.new }
+{
+    let (call, next) = entry_at(journal, at)?;
+    Some(Turn {
+        answer: make(sheet, call),
+        next,
+    })
+}
+
 // Whether the answers of all calls have at most room bytes. Makes the calls, and adds up, until they have more.
-fn fits(sheet: Sheet, journal: &[u8], room: usize) -> bool
+fn fits(mut sheet: Sheet, journal: &[u8], room: usize) -> bool
     requires { Sound sheet × Spells journal.now }
     ensures { result ≡ leb (length (text_of (book_of sheet) (journal_of journal.now))) room }
 {
-    let mut current = sheet;
     let mut at = 0;
     let mut left = room;
-    while at < journal.len() {
-        let e = entry_at(journal, at);
-        let made = make(current, e);
-        let length = line_length(made.settle, made.size);
+    while let Some(turn) = turn_at(&mut sheet, journal, at) {
+        let length = turn.answer.line_length();
         if left < length {
             return false;
         }
-        let after = made.sheet;
-        current = after;
         left -= length;
-        at = e.next;
+        at = turn.next;
     }
     true
 }
 
 // Makes all calls, and writes their answers at the front of `out`. Returns how many bytes they have.
-fn write_answers(sheet: Sheet, journal: &[u8], out: &mut [u8]) -> usize
+fn write_answers(mut sheet: Sheet, journal: &[u8], out: &mut [u8]) -> usize
     requires { Sound sheet × Spells journal.now
         × (length (text_of (book_of sheet) (journal_of journal.now)) ≤ length out.old) }
     ensures value { result ≡ length (text_of (book_of sheet) (journal_of journal.now)) }
     ensures out_after { out.new ≡ text_of (book_of sheet) (journal_of journal.now) ++ drop result out.old }
 {
-    let mut current = sheet;
     let mut at = 0;
     let mut to = 0;
-    while at < journal.len() {
-        let call = entry_at(journal, at);
-        let made = make(current, call);
-        let numbers = made.numbers;
-        let size = made.size;
-        put_answer(out, to, made.settle, &numbers[..size]);
-        let next = made.sheet;
-        current = next;
-        to += line_length(made.settle, size);
-        at = call.next;
+    while let Some(Turn { answer, next }) = turn_at(&mut sheet, journal, at) {
+        answer.put(out, to);
+        to += answer.line_length();
+        at = next;
     }
     to
 }
 
 // Makes all calls. Returns the sheet that the last one leaves.
-fn make_all(sheet: Sheet, journal: &[u8]) -> Sheet
+fn make_all(mut sheet: Sheet, journal: &[u8]) -> Sheet
     requires { Sound sheet × Spells journal.now }
     ensures { result ≡ sheet_of (book_left (book_of sheet) (journal_of journal.now)) }
 {
-    let mut current = sheet;
     let mut at = 0;
-    while at < journal.len() {
-        let line = entry_at(journal, at);
-        let made = make(current, line);
-        let left = made.sheet;
-        current = left;
+    while let Some(line) = turn_at(&mut sheet, journal, at) {
         at = line.next;
     }
-    current
+    sheet
 }
 
 // The answers of a journal's calls on a sheet, at the front of `out`, or 9.
@@ -125,10 +131,9 @@ fn run_on(sheet: Sheet, journal: &[u8], out: &mut [u8]) -> Hosted
     ensures { hosted_of result out.new
         ≡ into_buffer (text (text_of (book_of sheet) (journal_of journal.now))) out.old }
 {
-    let room = out.len();
-    if !fits(sheet, journal, room) {
+    if !fits(sheet, journal, out.len()) {
         return Hosted {
-            refusal: 9,
+            refusal: Refusal::BufferShort.into(),
             line: 0,
             length: 0,
         };
@@ -147,34 +152,17 @@ fn run_on(sheet: Sheet, journal: &[u8], out: &mut [u8]) -> Hosted
 pub fn run_into(sheet: &[u8], journal: &[u8], answers: &mut [u8]) -> Hosted
     ensures { hosted_of result answers.new ≡ run_host sheet.now journal.now answers.old }
 {
-    let j = judged(sheet, journal);
-    let refusal = j.refusal;
-    if refusal != 0 {
-        return Hosted {
-            refusal,
-            line: j.line,
-            length: 0,
-        };
+    match judged(sheet, journal) {
+        Ok(sheet) => run_on(sheet, journal, answers),
+        Err(refused) => refused.into(),
     }
-    let s = j.sheet;
-    run_on(s, journal, answers)
 }
 
 // Reads a sheet of any bytes, makes the calls of a journal of any bytes on it, one after the other, and returns the sheet that they
 // leave. The refusals are those of `run_into`, but for 9.
-pub fn left_by(sheet: &[u8], journal: &[u8]) -> Left
+pub fn left_by(sheet: &[u8], journal: &[u8]) -> Result<Sheet, Refused>
     ensures { result ≡ left_of sheet.now journal.now }
 {
-    let j = judged(sheet, journal);
-    let refusal = j.refusal;
-    if refusal != 0 {
-        return j;
-    }
-    let s = j.sheet;
-    let sheet = make_all(s, journal);
-    Left {
-        refusal: 0,
-        line: 0,
-        sheet,
-    }
+    let sheet = judged(sheet, journal)?;
+    Ok(make_all(sheet, journal))
 }

@@ -7,7 +7,7 @@ use Rattle.rules.specs.Sheet.{Book}
 use Rattle.rules.specs.Read.{accepted, read}
 use Rattle.rules.specs.Lent.{at_front, into_buffer}
 use Rattle.rules.specs.Listing.{plan_book, listing, host}
-use Rattle.sheet.specs.declared.Reading.{Reading}
+use Rattle.sheet.specs.declared.Fault.{Fault}
 use Rattle.sheet.specs.Answers.{number_of}
 use Rattle.text.proofs.Answer.{into-short, into-long}
 use Rattle.listing.specs.Host.{listed_into}
@@ -29,10 +29,10 @@ listed-long k buffer text after c h e f g =
     (g ∙ ap₂ (λ (t : List ℕ) (i : ℕ). t ++ drop i buffer) e (sym f))
 
 -- a sheet that is refused
-pub host-refused : (s buffer : List ℕ) (r : Reading) (c : ℕ) → Refused (read s) r → c ≡ number_of r.refusal
-    → record { refusal = c; line = r.line; length = 0; buffer = buffer } ≡ host s buffer
+pub host-refused : (s buffer : List ℕ) (f : Fault) (c : ℕ) → Refused (read s) f → c ≡ number_of f.refusal
+    → record { refusal = c; line = f.line; length = 0; buffer = buffer } ≡ host s buffer
 unfolding host into_buffer
-host-refused s buffer r c f e = rw (f.said, e, f.coded)
+host-refused s buffer f c r e = rw (r.said, e, r.coded)
 
 -- a sheet that is read
 pub host-listed : (s buffer : List ℕ) (k : Book) → read s ≡ accepted k → listed_into k buffer ≡ host s buffer

@@ -10,7 +10,7 @@ use Rattle.rules.specs.Render.{columns, fields, line}
 use Rattle.rules.specs.Plan.{Plan}
 use Rattle.rules.specs.Listing.{first_line, group_line, batch_listing, listing}
 use Rattle.theory.proofs.Field.{columns-length}
-use Rattle.listing.specs.Rows.{figures, rows_to, listing_text}
+use Rattle.listing.specs.Rows.{without_places, rows_to, listing_text}
 use Rattle.theory.proofs.Fields.{fields-length, line-length}
 
 pub first-line-length : (p : Plan) → length (first_line p) ≡ 43
@@ -70,24 +70,23 @@ rows_of k p minutes places (suc b) h =
     (ap₂ (λ (x y : ℕ). line (suc b ∷ x ∷ y ∷ [])) e.0 e.1)
 
 -- and the whole listing
-pub listing-of : (k : Book) (p : Plan) (minutes places : List ℕ)
+pub listing-of : (k : Book) (p : Plan) (minutes places : List ℕ) → length minutes ≡ size k
     → ((b : ℕ) → 1 ≤ b → b ≤ size k → (at places b ≡ at p.assignment b) × (at minutes b ≡ (batch k b).minutes))
-    → listing_text (figures p.makespan p.lower_bound p.level p.lifts p.pushes p.moves) p.group (size k) minutes places
-    ≡ listing k p
+    → listing_text (without_places p) minutes places ≡ listing k p
 unfolding listing_text listing
-listing-of k p minutes places h =
-    ap (λ (r : List ℕ). first_line p ++ group_line p ++ r) (rows_of k p minutes places (size k) h)
+listing-of k p minutes places n h =
+    ap (λ (r : List ℕ). first_line p ++ group_line p ++ r) (ap (rows_to minutes places) n ∙ rows_of k p minutes places (size k) h)
 
-pub listing-text-length : (p : Plan) (group : List ℕ) (n : ℕ) (minutes places : List ℕ)
-    → length (listing_text p group n minutes places) ≡ 43 + (6 * (length group + 1) + 1) + 19 * n
+pub listing-text-length : (p : Plan) (minutes places : List ℕ)
+    → length (listing_text p minutes places) ≡ 43 + (6 * (length p.group + 1) + 1) + 19 * length minutes
 unfolding listing_text
-listing-text-length p group n minutes places =
-    let g : List ℕ = line (length group ∷ group) in
-    length-append (first_line p ++ g) (rows_to minutes places n)
+listing-text-length p minutes places =
+    let n = length minutes in
+    length-append (first_line p ++ group_line p) (rows_to minutes places n)
     ∙ omega (
       arith,
-      length-append (first_line p) g,
+      length-append (first_line p) (group_line p),
       first-line-length p,
-      line-length (length group ∷ group),
+      group-line-length p,
       rows-length minutes places n,
     )

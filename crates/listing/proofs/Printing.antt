@@ -21,14 +21,14 @@ use Rattle.text.specs.declared.Hosted.{Hosted}
 use Rattle.text.specs.Answer.{hosted_of}
 use Rattle.theory.proofs.Fields.{line-length}
 use Rattle.listing.proofs.Lines.{listing-length}
-use Rattle.listing.proofs.Planned.{SmallFigures, plan-fits}
+use Rattle.listing.proofs.Planned.{plan-fits}
 use Rattle.theory.proofs.Bytes.{read-bounded, refused-line}
 
 -- a line of 43 bytes, one of at most 151, and 200 of 19
 pub longest-listing : (k : Book) → sound k ≡ true → length (listing k (plan_book k)) ≤ 3994
 longest-listing k v =
-    let f : SmallFigures (plan_book k) = rw (book-sheet k v) at (plan-fits (sheet_of k) (sheet-sound k v)) in
-    omega (arith, listing-length k (plan_book k), f.few, (sound-is k v).room)
+    let f : length (plan_book k).group ≤ 24 = rw (book-sheet k v) at (plan-fits (sheet_of k) (sheet-sound k v)).1 in
+    omega (arith, listing-length k (plan_book k), f, (sound-is k v).room)
 
 -- the listing is in the buffer
 pub record ListingIn (s buffer : List ℕ) (h : Hosted) (after : List ℕ) : Type 0 where

@@ -1,49 +1,41 @@
 // The host's call: a sheet's bytes in, its listing in a lent buffer.
 ghost use Rattle.std.specs.Prelude.{◌≡◌};
 ghost use Rattle.rules.specs.Listing.{host};
+ghost use Rattle.sheet.specs.Answers.{hosted_as};
 ghost use Rattle.sheet.specs.Represent.{Sound, book_of};
 ghost use Rattle.text.specs.Answer.{hosted_of};
 ghost use Rattle.listing.specs.Host.{listed_into};
 
 use crate::plan::plan;
-use crate::rows::{Figures, listing_length, put_listing};
+use crate::rows::{listing_length, put_listing};
 use reading::read;
-use sheet::{Refusal, Sheet, code};
+use sheet::{Fault, Refusal, Sheet};
 use text::Hosted;
 
-// Plans a sheet, and writes its listing at the front of `out` where that is long enough.
-fn list_into(sheet: Sheet, out: &mut [u8]) -> Hosted
+// Plans a sheet, and writes its listing at the front of `out` where that is long enough. Answers how many bytes it has.
+fn list_into(sheet: Sheet, out: &mut [u8]) -> Result<usize, Fault>
     requires { Sound sheet }
-    ensures { hosted_of result out.new ≡ listed_into (book_of sheet) out.old }
+    ensures { hosted_as result out.new ≡ listed_into (book_of sheet) out.old }
 {
     let p = plan(sheet);
     let n = sheet.batches();
-    let size = p.size;
-    if out.len() < listing_length(size, n) {
-        return Hosted {
-            refusal: code(Refusal::BufferShort),
+    if out.len() < listing_length(p.balanced.group.size, n) {
+        return Err(Fault {
+            refusal: Refusal::BufferShort,
             line: 0,
-            length: 0,
-        };
+        });
     }
     let minutes = sheet.minutes();
-    let after = p.sheet;
-    let places = after.places();
-    let group = p.group;
-    let f = Figures {
-        makespan: p.makespan,
-        bound: p.bound,
-        level: p.level,
-        lifts: p.lifts,
-        pushes: p.pushes,
-        moves: p.moves,
-    };
-    let length = put_listing(out, f, &group[..size], n, &minutes, &places);
-    Hosted {
-        refusal: 0,
-        line: 0,
-        length,
-    }
+    let places = p.settled.sheet.places();
+    Ok(put_listing(out, &p, &minutes[..n], &places))
+}
+
+// Reads a sheet of any bytes, plans it and writes the listing.
+fn read_and_list(sheet: &[u8], out: &mut [u8]) -> Result<usize, Fault>
+    ensures { hosted_as result out.new ≡ host sheet.now out.old }
+{
+    let sheet = read(sheet)?;
+    list_into(sheet, out)
 }
 
 // Reads a sheet of any bytes, plans it and writes the listing at the front of `listing`. A refusal of reading comes before 9, and
@@ -51,15 +43,16 @@ fn list_into(sheet: Sheet, out: &mut [u8]) -> Hosted
 pub fn plan_into(sheet: &[u8], listing: &mut [u8]) -> Hosted
     ensures { hosted_of result listing.new ≡ host sheet.now listing.old }
 {
-    let r = read(sheet);
-    let e = r.refusal;
-    let Refusal::Nothing = e else {
-        return Hosted {
-            refusal: code(e),
-            line: r.line,
+    match read_and_list(sheet, listing) {
+        Ok(length) => Hosted {
+            refusal: 0,
+            line: 0,
+            length,
+        },
+        Err(fault) => Hosted {
+            refusal: u32::from(fault.refusal),
+            line: fault.line,
             length: 0,
-        };
-    };
-    let s = r.sheet;
-    list_into(s, listing)
+        },
+    }
 }

@@ -1,43 +1,23 @@
 // A plan: balance, and settle straight after it.
-ghost use Rattle.std.specs.Prelude.{◌≡◌};
 ghost use Rattle.sheet.specs.Represent.{Sound, book_of};
-ghost use Rattle.listing.specs.Planned.{plan_of};
+ghost use Rattle.listing.specs.Planned.{IsPlanOf};
 
 use planner::calls::{balance, settle};
+use planner::{Balanced, Settled};
 use sheet::Sheet;
 
-// The makespan and the moves are settle's, the rest is balance's; the sheet is the one that both leave.
+// Of a plan the makespan, the moves and the sheet are settle's, and the rest is balance's.
 #[derive(Clone, Copy)]
 pub(crate) struct Planned {
-    pub(crate) makespan: u32,
-    pub(crate) bound: u32,
-    pub(crate) level: u32,
-    pub(crate) lifts: u32,
-    pub(crate) pushes: u32,
-    pub(crate) moves: u64,
-    pub(crate) size: usize,
-    pub(crate) group: [u8; 24],
-    pub(crate) sheet: Sheet,
+    pub(crate) balanced: Balanced,
+    pub(crate) settled: Settled,
 }
 
 pub(crate) fn plan(sheet: Sheet) -> Planned
     requires { Sound sheet }
-    ensures { result ≡ plan_of (book_of sheet) }
+    ensures { IsPlanOf (book_of sheet) result }
 {
-    let b = balance(sheet);
-    let balanced = b.sheet;
-    let z = settle(balanced);
-    let group = b.group;
-    let after = z.sheet;
-    Planned {
-        makespan: z.makespan,
-        bound: b.bound,
-        level: b.level,
-        lifts: b.lifts,
-        pushes: b.pushes,
-        moves: z.moves,
-        size: b.size,
-        group,
-        sheet: after,
-    }
+    let balanced = balance(sheet);
+    let settled = settle(balanced.sheet);
+    Planned { balanced, settled }
 }

@@ -15,10 +15,9 @@ pub fn print(sheet: &[u8], out: &mut [u8]) -> usize
     ensures out_after { out.new ≡ at_front (program sheet.now) out.old }
 {
     let h = plan_into(sheet, out);
-    let number = h.refusal;
-    if number == 0 {
+    if h.refusal == 0 {
         return h.length;
     }
-    put_pair(out, number, h.line as u32);
+    put_pair(out, h.refusal, h.line as u32);
     13
 }

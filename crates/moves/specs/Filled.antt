@@ -1,11 +1,10 @@
 -- What the contracts cite: the rules' records as the code's.
-use Rattle.std.specs.Prelude.{ℕ, ◌+◌, ◌≤◌, ◌<◌, ◌≡◌, List, [], ◌∷◌, ◌++◌, map}
+use Rattle.std.specs.Prelude.{ℕ, List, map}
 use Rattle.rules.specs.Lent.{at_front}
 use Rattle.rules.specs.Moves as R
 use Rattle.rules.specs.Moves.{records}
 use Rattle.moves.specs.declared.Change.{Change}
 use Rattle.moves.specs.declared.Move.{Move}
-use Rattle.moves.specs.declared.Step.{Step}
 
 abbrev pub move_as : R.Move → Move
 move_as v = record { batch = v.batch; from = v.from; to = v.to }
@@ -17,10 +16,3 @@ records_to c j = map move_as (records j c.old c.new)
 -- the list ys with all of them at its front; what lies past them stays
 abbrev pub filled_by : Change → List Move → List Move
 filled_by c ys = at_front (records_to c c.n) ys
-
--- r has the first index from i on, below n, at which the placements differ, with its record; or n
-pub record Next (c : Change) (i : ℕ) (r : Step) : Type 0 where
-  pub from : i ≤ r.at
-  pub upto : r.at ≤ c.n
-  pub none : records_to c r.at ≡ records_to c i
-  pub one : r.at < c.n → records_to c (r.at + 1) ≡ records_to c r.at ++ (r.record ∷ [])

@@ -1,6 +1,6 @@
 -- An answer of review or a trial that is the rules' is so in document 01's numbers.
-use Prim.Native.Nat.{ℕ, ◌-◌}
-use mathlib.Core.Path.{◌≡◌, refl, ap}
+use Prim.Native.Nat.{ℕ, zero, suc, ◌-◌}
+use mathlib.Core.Path.{◌≡◌, refl, ap, ◌∙◌}
 use mathlib.Core.Bool.{Bool, true, false}
 use mathlib.Core.List.{List, ◌∷◌}
 use native.Mathlib.Omega.{arith}
@@ -16,28 +16,35 @@ use Rattle.rules.specs.Run.{answer, answer_numbers, shown, try_answer}
 use Rattle.rules.specs.Run as R
 use Rattle.theory.proofs.Jobs.{batches-first, sound-valid, sound-permitted}
 use Rattle.theory.proofs.Trial.{Outcome, passes, fails, outcome, trial-permitted}
+use Rattle.std.specs.Prelude.{Result, Ok}
+use Rattle.sheet.specs.declared.Refusal.{Refusal}
 use Rattle.sheet.specs.Represent.{padded}
 use Rattle.theory.proofs.Entries.{length-list_to}
 use Rattle.planner.specs.declared.Tried.{Tried}
 use Rattle.planner.specs.declared.Reviewed.{Reviewed}
-use Rattle.planner.specs.Calls.{review_of, trial_of, trial_answer, tried_as, review_numbers, trial_numbers, ReviewAnswered, TrialAnswered}
+use Rattle.planner.specs.Calls.{numbered, number_or_zero, review_of, trial_of, trial_answer, tried_as, review_numbers, trial_numbers, ReviewAnswered, TrialAnswered}
 
 -- ---- review
 
 front : (w : ℕ) (l : List ℕ) (c : ℕ) → length l ≡ c → take c (padded w l) ≡ l
 front w l c e = take_at l (replicate (w - length l) 0) c e
 
+numbered-back : (b : ℕ) → number_or_zero (numbered b) ≡ b
+numbered-back zero = refl
+numbered-back (suc b) = refl
+
 review-answer : (k : Book) → review_numbers k (review_of k) ≡ answer_numbers (answer k R.reviewing)
 unfolding review_of answer review
 review-answer k =
     let v = review (instance k) (places k) in
-    ap (λ (l : List ℕ). 0 ∷ v.makespan ∷ v.improving ∷ l) (front 24 v.loads k.m (length-list_to k.m (λ i. load (instance k) (places k) i)))
+    ap (λ (i : ℕ). 0 ∷ v.makespan ∷ i ∷ take k.m (padded 24 v.loads)) (numbered-back v.improving)
+    ∙ ap (λ (l : List ℕ). 0 ∷ v.makespan ∷ v.improving ∷ l) (front 24 v.loads k.m (length-list_to k.m (λ i. load (instance k) (places k) i)))
 
 -- ---- trials
 
 module _ (k : Book) (v : sound k ≡ true) where
   tried-numbers : (a : ℕ) {t : G.Tried} → Outcome (instance k) (places k) (sound-valid k v) (sound-permitted k v) a t
-      → trial_numbers k (tried_as (shown (size k) t)) ≡ answer_numbers (R.tried (shown (size k) t))
+      → trial_numbers k (Ok (tried_as (shown (size k) t))) ≡ answer_numbers (R.tried (shown (size k) t))
   tried-numbers a (passes p) =
       let w = trial-permitted (instance k) (places k) (sound-valid k v) (sound-permitted k v) (at_level (instance k) a) in
       let e = ended (instance k) (places k) a in
@@ -59,5 +66,5 @@ module _ (k : Book) (v : sound k ≡ true) where
 pub review-answered : {k : Book} {r : Reviewed} → r ≡ review_of k → ReviewAnswered k r
 review-answered {k} f = record { is = f; numbers = rw f (review-answer k) }
 
-pub trial-answered : {k : Book} {a : ℕ} {r : Tried} → sound k ≡ true → r ≡ trial_of k a → TrialAnswered k a r
+pub trial-answered : {k : Book} {a : ℕ} {r : Result Tried Refusal} → sound k ≡ true → r ≡ trial_of k a → TrialAnswered k a r
 trial-answered {k} {a} v f = record { is = f; numbers = rw f (trial-answer k v a) }

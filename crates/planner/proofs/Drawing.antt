@@ -5,7 +5,7 @@ use mathlib.Core.List.{List}
 use native.Mathlib.Omega.{arith}
 use lib.ListN.{length, take, replicate, length-take}
 use lib.Seq.{take_at, take-take, length-take-le}
-use Rattle.rules.specs.Fold.{at, max_to, those_to}
+use Rattle.rules.specs.Fold.{at, max_to, mem, those_to}
 use Rattle.rules.specs.Instance.{Instance, Assignment, instance}
 use Rattle.rules.specs.Instance as In
 use Rattle.rules.specs.Load.{load, makespan}
@@ -23,59 +23,71 @@ use Rattle.sheet.specs.Represent.{Sound, padded, sheet_of, book_of}
 use Rattle.sheet.specs.View.{kept_places}
 use Rattle.sheet.proofs.Placed.{kept-taken}
 use Rattle.sheet.proofs.SoundViews.{view-valid, view-permitted, view-placed}
-use Rattle.arrays.specs.Sets.{has}
-use Rattle.arrays.specs.Reads.{Reads}
+use Rattle.arrays.specs.Sets.{has, SetOf}
+use Rattle.arrays.specs.declared.Jobs.{Jobs}
+use Rattle.arrays.specs.declared.Placement.{Placement}
+use Rattle.arrays.specs.Jobs.{Says}
 use Rattle.trials.specs.Attempt.{Standing}
 use Rattle.scans.specs.Grouping.{HoldsList}
+use Rattle.scans.specs.declared.group.Members.{Members}
 use Rattle.planner.specs.declared.balance.Search.{Search}
 use Rattle.planner.specs.declared.drawn.Drawn.{Drawn}
 use Rattle.planner.specs.declared.drawn.Rested.{Rested}
-use Rattle.settling.specs.Settling.{Known, Placing, SettledTo}
-use Rattle.planner.specs.Search.{Sought}
+use Rattle.settling.specs.declared.settle.Settled.{Settled}
+use Rattle.settling.specs.Settling.{SettledTo}
+use Rattle.planner.specs.Search.{failed_set, Sought}
 use Rattle.planner.specs.Drawing.{Draws, Rests}
 use Rattle.planner.specs.Calls.{balance_of, settle_of}
+use Rattle.planner.proofs.TrialAnswers.{members-held}
 
--- the greatest load of loads kept beside places
-greatest-is : {I : Instance} {m c : ℕ} {lengths sets : List ℕ} (loads places : List ℕ) → Reads I m c lengths sets
-    → ((i : ℕ) → 0 < i → i ≤ m → at loads i ≡ load I (take c places) i) → max_to m (λ i. at loads i) ≡ makespan I (take c places)
+-- the greatest load of a placement
+greatest-is : {I : Instance} (j : Jobs) (p : Placement) → Says I j → ((i : ℕ) → 0 < i → i ≤ j.m → at p.loads i ≡ load I (take j.n p.places) i)
+    → max_to j.m (λ i. at p.loads i) ≡ makespan I (take j.n p.places)
 unfolding makespan
-greatest-is {I} {m} {c} loads places r h =
-    max_to-ext m _ _ h ∙ ap (λ (k : ℕ). max_to k (λ i. load I (take c places) i)) (sym r.machines)
+greatest-is {I} j p r h =
+    max_to-ext j.m _ _ h ∙ ap (λ (k : ℕ). max_to k (λ i. load I (take j.n p.places) i)) (sym r.machines)
 
-module _ {I : Instance} {m c : ℕ} {lengths sets places loads : List ℕ} (st : Standing I m c lengths sets places loads) where
-  pub makespan-is : max_to m (λ i. at loads i) ≡ makespan I (take c places)
-  makespan-is = greatest-is loads places st.reads (λ i l u. st.kept i l (omega (arith, st.reads.machines)))
+module _ {I : Instance} {j : Jobs} {p : Placement} (st : Standing I j p) where
+  pub makespan-is : max_to j.m (λ i. at p.loads i) ≡ makespan I (take j.n p.places)
+  makespan-is = greatest-is j p st.reads (λ i l u. st.kept i l (omega (arith, st.reads.machines)))
 
-  pub drawn-permitted : {d : Drawn} → Draws I c (take c places) d → Permitted I (take c d.places)
-  drawn-permitted e = rw e.places (balanced-permitted I (take c places) st.reads.valid st.permitted)
+  pub drawn-permitted : {d : Drawn} → Draws I j.n (take j.n p.places) d → Permitted I (take j.n d.places)
+  drawn-permitted e = rw e.places (balanced-permitted I (take j.n p.places) st.reads.valid st.permitted)
 
-  pub rest-permitted : {z : Rested} → Rests I c (take c places) z → Permitted I (take c z.places)
+  pub rest-permitted : {z : Rested} → Rests I j.n (take j.n p.places) z → Permitted I (take j.n z.places)
   rest-permitted e = rw e.places (rested-permitted st.reads.valid st.permitted)
 
+  -- its group
+  pub sought-set : {s : Search} {set : ℕ} → Sought I j (take j.n p.places) s → set ≡ failed_set s.failed
+      → SetOf (λ i. mem i (those_to j.m (λ k. has set k))) set
+  sought-set found q = rw q found.is_set
+
   -- the figures of balance, from what the parts answer
-  pub drawn : {s : Search} {group : List ℕ} {bound makespan size : ℕ}
-      → Sought I m c (take c places) s
-      → HoldsList (those_to m (λ i. has s.group i)) group size
-      → bound ≡ lower_bound I (those_to m (λ i. has s.group i))
-      → makespan ≡ max_to m (λ i. at s.loads i)
-      → Draws I c (take c places) (record {
+  pub drawn : {s : Search} {set : ℕ} {group : Members} {bound makespan : ℕ}
+      → Sought I j (take j.n p.places) s
+      → set ≡ failed_set s.failed
+      → HoldsList (those_to j.m (λ i. has set i)) group.list group.size
+      → bound ≡ lower_bound I (those_to j.m (λ i. has set i))
+      → makespan ≡ max_to j.m (λ i. at s.kept.loads i)
+      → Draws I j.n (take j.n p.places) (record {
         makespan = makespan;
         bound = bound;
         level = s.level;
         lifts = s.lifts;
         pushes = s.pushes;
-        size = size;
         group = group;
-        places = s.places;
+        places = s.kept.places;
       })
   unfolding P.balanced
-  drawn {s} found g b k =
+  drawn {s} found q g b k =
       let f = found.found in
-      let same : take c s.places ≡ (B.balance I (take c places)).assignment = ap (λ (w : B.Search). w.assignment) f in
-      let those = ap (λ (w : B.Search). w.group) f in
+      let same : take j.n s.kept.places ≡ (B.balance I (take j.n p.places)).assignment = ap (λ (w : B.Search). w.assignment) f in
+      let those = ap (λ x. those_to j.m (λ i. has x i)) q ∙ ap (λ (w : B.Search). w.group) f in
       record {
         makespan =
-            k ∙ greatest-is s.loads s.places st.reads (λ i l u. found.kept i l (omega (arith, st.reads.machines))) ∙ ap (λ (x : Assignment). makespan I x) same;
+            k
+            ∙ greatest-is j s.kept st.reads (λ i l u. found.kept i l (omega (arith, st.reads.machines)))
+            ∙ ap (λ (x : Assignment). makespan I x) same;
         bound = b ∙ ap (lower_bound I) those;
         level = ap (λ (w : B.Search). w.level) f;
         lifts = ap (λ (w : B.Search). w.lifts) f;
@@ -84,29 +96,16 @@ module _ {I : Instance} {m c : ℕ} {lengths sets places loads : List ℕ} (st :
         places = same;
       }
 
-  -- settle: what it asks, and its figures
-  pub standing-placing : m ≤ length loads → Placing I m c places loads
-  standing-placing h = record {
-    permitted = st.permitted;
-    long = h;
-    each = λ i l u. st.kept i l (omega (arith, st.reads.machines));
-  }
-
-  pub standing-known : c ≤ length lengths → c ≤ length sets → m ≤ length loads → Known m c lengths sets places loads
-  standing-known e f h = record {
-    said = record { I = I; reads = st.reads; timed = e; listed = f };
-    placing = standing-placing h;
-  }
-
-  pub rested-at : {places' loads' : List ℕ} {moves makespan : ℕ}
-      → SettledTo I m c places places' loads' moves
-      → makespan ≡ max_to m (λ i. at loads' i)
-      → Rests I c (take c places) (record { makespan = makespan; moves = moves; places = places' })
+  -- the figures of settle
+  pub rested-at : {z : Settled} {makespan : ℕ}
+      → SettledTo I j p z.end z.moves
+      → makespan ≡ max_to j.m (λ i. at z.end.loads i)
+      → Rests I j.n (take j.n p.places) (record { makespan = makespan; moves = z.moves; places = z.end.places })
   unfolding P.rested
-  rested-at {places'} z k = record {
-    makespan = k ∙ greatest-is _ places' st.reads z.placing.each ∙ ap (λ (x : Assignment). makespan I x) z.assignment;
-    moves = z.count;
-    places = z.assignment;
+  rested-at {z} t k = record {
+    makespan = k ∙ greatest-is j z.end st.reads t.placing.each ∙ ap (λ (x : Assignment). makespan I x) t.assignment;
+    moves = t.count;
+    places = t.assignment;
   }
 
 -- ---- what is shown
@@ -134,16 +133,13 @@ pub balance-shown : (k : Book) {c : ℕ} {x : Assignment} (d : Drawn) (s : Sheet
       level = d.level;
       lifts = d.lifts;
       pushes = d.pushes;
-      size = d.size;
       group = d.group;
       sheet = s;
     } ≡ balance_of k
 unfolding balance_of
 balance-shown k {c} {x} d s e w f =
     let h = draws-at e w in
-    let p = P.balanced (instance k) (In.places k) in
-    let group : d.group ≡ padded 24 p.group = h.group.padded ∙ (rw h.group.count refl) in
-    rw (f, group, h.makespan, h.bound, h.level, h.lifts, h.pushes, h.group.count, h.places) refl
+    rw (f, members-held h.group, h.makespan, h.bound, h.level, h.lifts, h.pushes, h.places) refl
 
 rests-at : {I : Instance} {c : ℕ} {x y : Assignment} {z : Rested} → x ≡ y → Rests I c x z → Rests I c y z
 rests-at e h = rw (← e) h

@@ -4,8 +4,9 @@ use mathlib.Core.Path.{◌≡◌, refl, sym, ap, ◌∙◌}
 use mathlib.Core.List.{List, [], ◌∷◌, ◌++◌, map, append_assoc, append-nil, map-append}
 use native.Mathlib.Omega.{arith}
 use native.Mathlib.Numerals.{add-one}
-use lib.ListN.{length, get_or, set, replicate, length-append, length-map, length-replicate, replicate-append-replicate}
-use lib.Seq.{paste, set-append_left}
+use lib.ListN.{length, get_or, set, drop, replicate, length-append, length-map, length-replicate, replicate-append-replicate}
+use lib.Seq.{set-append_left}
+use Rattle.std.proofs.lemmas.List.{drop-replicate}
 use Rattle.rules.specs.Fold.{at}
 use Rattle.rules.specs.Sheet.{Book, Batch, waiting}
 use Rattle.rules.specs.Instance.{qualified, calibration_of, calibrations_to, items}
@@ -14,7 +15,7 @@ use Rattle.theory.proofs.Marks.{length-marks}
 use Rattle.theory.proofs.Items.{calibrations-ext}
 use Rattle.sheet.specs.Represent.{padded}
 use Rattle.sheet.specs.View.{mark_rows}
-use Rattle.sheet.proofs.Padded.{length-padded, padded-room, set-append, paste-append}
+use Rattle.sheet.proofs.Padded.{length-padded, padded-room, set-append}
 use Rattle.sheet.proofs.Marking.{marks-none, marks-more, set-behind}
 use Rattle.sheet.proofs.Marks.{length-mark-rows, mark-rows-last}
 use Rattle.planner.specs.declared.items.Items.{Items}
@@ -31,13 +32,12 @@ padded-wider v w l h g =
     append_assoc l (replicate (w - length l) 0) (replicate (v - length (padded w l)) 0)
     ∙ ap (λ (z : List ℕ). l ++ z) (replicate-append-replicate (w - length l) (v - length (padded w l)) 0 ∙ ap (λ (k : ℕ). replicate k 0) e)
 
--- entered into zeros
-pub entered-wider : (v w : ℕ) (l part a : List ℕ) → part ≡ padded w l → length l ≤ w → w ≤ v → a ≡ paste (replicate v 0) 0 part (length part)
-    → a ≡ padded v l
-entered-wider v w l part a e h g f =
-    let n : length part ≡ w = ap length e ∙ length-padded w l h in
-    let z : v - 0 ≡ v = omega arith in
-    f ∙ ap (λ (k : ℕ). paste (replicate k 0) 0 part (length part)) (sym z) ∙ paste-append v [] part 0 (length part) refl refl (omega arith) ∙ ap (padded v) e ∙ padded-wider v w l h g
+-- at the front of zeros
+pub front-padded : (w n : ℕ) {part l : List ℕ} → part ≡ l → length l ≡ n → part ++ drop n (replicate w 0) ≡ padded w l
+front-padded w n {l = l} e h = rw (e, drop-replicate {X = ℕ} n w 0, h) refl
+
+entered-wider : (v w : ℕ) (l part : List ℕ) → part ≡ padded w l → length l ≤ w → w ≤ v → part ++ drop w (replicate v 0) ≡ padded v l
+entered-wider v w l part e h g = front-padded v w e (length-padded w l h) ∙ padded-wider v w l h g
 
 -- ---- one item more
 
@@ -102,41 +102,42 @@ module _ {calibrations : List ℕ} {a : Items} {i : ℕ} {r : Items} (e : Enteri
   unfolding calibrations_to
   next-is bs = append_assoc bs (calibrations_to calibrations i) (calibration_of (suc i) (get_or calibrations i 0)) ∙ (rw (add-one i))
 
-  pub entering-none : get_or calibrations i 0 ≡ 0 → Entering calibrations a (i + 1) r
-  entering-none z = record {
-    few = omega (arith, e.few);
-    same = λ bs q.
-        e.same bs q
-        ∙ ap items_of (sym (append-nil _) ∙ ap (λ (t : ℕ). (bs ++ calibrations_to calibrations i) ++ calibration_of (suc i) t) (sym z) ∙ next-is bs);
-  }
+  module _ {t : ℕ} (f : t ≡ get_or calibrations i 0) where
+    pub entering-none : t ≡ 0 → Entering calibrations a (i + 1) r
+    entering-none z = record {
+      few = omega (arith, e.few);
+      same = λ bs q.
+          e.same bs q
+          ∙ ap items_of
+          (sym (append-nil _) ∙ ap (λ (k : ℕ). (bs ++ calibrations_to calibrations i) ++ calibration_of (suc i) k) (sym z ∙ f) ∙ next-is bs);
+    }
 
-  pub entering-one : 0 < get_or calibrations i 0 → i < 24 → a.n + i < 224 → Entering calibrations a (i + 1) (entered r i (get_or calibrations i 0))
-  entering-one p h g = record {
-    few = omega (arith, e.few);
-    same = λ bs q.
-        let s = e.same bs q in
-        let n : r.n ≡ length (bs ++ calibrations_to calibrations i) = ap (λ (x : Items). x.n) s in
-        ap (λ (x : Items). entered x i (get_or calibrations i 0)) s
-        ∙ item-more (bs ++ calibrations_to calibrations i) i (get_or calibrations i 0) p h (omega (arith, e.few))
-        ∙ ap items_of (next-is bs);
-  }
+    pub entering-one : 0 < t → i < 24 → a.n + i < 224 → Entering calibrations a (i + 1) (entered r i t)
+    entering-one p h g = record {
+      few = omega (arith, e.few);
+      same = λ bs q.
+          let s = e.same bs q in
+          let n : r.n ≡ length (bs ++ calibrations_to calibrations i) = ap (λ (x : Items). x.n) s in
+          ap (λ (x : Items). entered x i t) s
+          ∙ item-more (bs ++ calibrations_to calibrations i) i t p h (omega (arith, e.few))
+          ∙ ap items_of (ap (λ (k : ℕ). (bs ++ calibrations_to calibrations i) ++ calibration_of (suc i) k) f ∙ next-is bs);
+    }
 
 -- ---- the whole sheet
 
 -- the batches, each array entered into a wider one
-pub batches-laid : (bs : List Batch) {n : ℕ} {lengths minutes stands places flags marks : List ℕ} → length bs ≤ 200 → n ≡ length bs
-    → lengths ≡ padded 200 (map (λ (b : Batch). b.minutes) bs) → minutes ≡ paste (replicate 224 0) 0 lengths (length lengths)
-    → stands ≡ padded 200 (map (λ (b : Batch). b.place) bs) → places ≡ paste (replicate 224 0) 0 stands (length stands)
-    → flags ≡ padded 4800 (mark_rows bs) → marks ≡ paste (replicate 5376 0) 0 flags (length flags)
-    → held n minutes places marks ≡ items_of bs
-batches-laid bs {lengths = lengths} {minutes = minutes} {stands = stands} {places = places} {flags = flags} {marks = marks} h e l a s b f d =
+pub batches-laid : (bs : List Batch) {n : ℕ} {minutes places marks : List ℕ} → length bs ≤ 200 → n ≡ length bs
+    → minutes ≡ padded 200 (map (λ (b : Batch). b.minutes) bs) → places ≡ padded 200 (map (λ (b : Batch). b.place) bs)
+    → marks ≡ padded 4800 (mark_rows bs)
+    → held n (minutes ++ drop 200 (replicate 224 0)) (places ++ drop 200 (replicate 224 0)) (marks ++ drop 4800 (replicate 5376 0)) ≡ items_of bs
+batches-laid bs {minutes = minutes} {places = places} {marks = marks} h e l s f =
     let t = length-map bs (λ (b : Batch). b.minutes) in
     let p = length-map bs (λ (b : Batch). b.place) in
     rw (
       e,
-      entered-wider 224 200 (map (λ (b : Batch). b.minutes) bs) lengths minutes l (omega arith) (omega arith) a,
-      entered-wider 224 200 (map (λ (b : Batch). b.place) bs) stands places s (omega arith) (omega arith) b,
-      entered-wider 5376 4800 (mark_rows bs) flags marks f (omega (arith, length-mark-rows bs)) (omega arith) d,
+      entered-wider 224 200 (map (λ (b : Batch). b.minutes) bs) minutes l (omega arith) (omega arith),
+      entered-wider 224 200 (map (λ (b : Batch). b.place) bs) places s (omega arith) (omega arith),
+      entered-wider 5376 4800 (mark_rows bs) marks f (omega (arith, length-mark-rows bs)) (omega arith),
     )
 
 -- the calibrations as the sheet shows them

@@ -2,10 +2,10 @@
 use Prim.Native.Nat.{ℕ, zero, suc, ◌+◌, ◌-◌, ◌*◌, ◌≤◌, ◌<◌, ◌^◌}
 use mathlib.Core.Path.{◌≡◌, refl, sym, ap, ◌∙◌}
 use mathlib.Core.Bool.{Bool, true, false}
-use mathlib.Core.List.{List, [], ◌∷◌, ◌++◌, map}
+use mathlib.Core.List.{List, [], ◌∷◌, map}
 use native.Mathlib.Omega.{arith}
-use lib.ListN.{length, get_or, set, take, drop, replicate, length-drop, length-map, take-append-drop, get_or-map}
-use lib.Seq.{get_or-drop, get_or-take, length-take-le, take_at, take-suc}
+use lib.ListN.{length, get_or, take, drop, replicate, length-drop, length-map, take-append-drop, get_or-map}
+use lib.Seq.{get_or-drop, get_or-take, length-take-le, take_at}
 use native.Mathlib.Numerals.{add-one}
 use lib.Dec.{leb, eqb}
 use borrow.Author.Tests.{le-leb}
@@ -21,20 +21,23 @@ use Rattle.theory.proofs.Jobs.{jobs-count}
 use Rattle.sheet.specs.declared.Sheet.{Sheet}
 use Rattle.sheet.specs.Represent.{padded, book_of, Sound}
 use Rattle.sheet.specs.View.{mark_rows}
-use Rattle.sheet.proofs.Padded.{length-padded, set-append}
+use Rattle.sheet.proofs.Padded.{length-padded}
 use Rattle.sheet.proofs.Marks.{length-mark-rows}
 use Rattle.sheet.proofs.SoundViews.{view-instruments, view-valid, view-small, marks-row}
 use Rattle.arrays.specs.Sets.{has, SetsOf}
 use Rattle.rules.specs.Sheet.{Book, Batch, no_batch_here}
 use Rattle.scans.specs.Marks.{Marked}
 use Rattle.arrays.specs.Reads.{Reads}
-use Rattle.planner.specs.declared.Reviewed.{Reviewed}
+use Rattle.arrays.specs.declared.Jobs.{Jobs}
 use Rattle.planner.specs.declared.items.Items.{Items}
 use Rattle.planner.specs.declared.laid.Laid.{Laid}
 use Rattle.planner.specs.Items.{items_of}
-use Rattle.planner.specs.Laid.{Lays}
-use Rattle.settling.specs.Settling.{Placing, Known, ReviewIs}
-use Rattle.planner.specs.Calls.{review_of}
+use Rattle.planner.specs.Laid.{LaidAs}
+use Rattle.arrays.specs.Found.{found}
+use Rattle.std.specs.Prelude.{Option}
+use Rattle.std.specs.Option.{option_map}
+use Rattle.settling.specs.Settling.{ReviewIs}
+use Rattle.planner.specs.Calls.{numbered, review_of}
 
 -- ---- a list in w entries
 
@@ -97,7 +100,10 @@ mark-is k b i h p q =
 item_count : (k : Book) {a : Items} → a ≡ items_of (items k) → a.n ≡ n (instance k)
 item_count k e = ap (λ (r : Items). r.n) e ∙ sym (jobs-count k)
 
--- at most 224
+-- at most 24 machines, and at most 224 items
+pub few-machines : (s : Sheet) → Sound s → {m : ℕ} → m ≡ (book_of s).m → m ≤ 24
+few-machines s v e = omega (arith, e, view-instruments s v)
+
 pub few-items : (s : Sheet) → Sound s → {a : Items} → a ≡ items_of (items (book_of s)) → a.n ≤ 224
 few-items s v e = omega (arith, item_count (book_of s) e, (view-small s v).jobs)
 
@@ -133,7 +139,7 @@ module _ (s : Sheet) (v : Sound s) {m : ℕ} {a : Items} {sets : List ℕ} (e : 
   view-reads = record {
     machines = sym e;
     jobs = sym (item_count (book_of s) f);
-    few = omega (arith, view-instruments s v);
+    few = few-machines s v e;
     most = few-items s v f;
     minutes = λ b p q. ap (λ (x : Items). at x.minutes b) f ∙ minutes-at (book_of s) b;
     masks = mask_is;
@@ -150,45 +156,23 @@ view-place k e =
 pub permitted-at : {I : Instance} {x y : List ℕ} → x ≡ y → Permitted I y → Permitted I x
 permitted-at e w = rw e w
 
--- a sheet's arrays, for a search among its jobs
-module _ {k : Book} {a : Laid} (v : Lays k a) where
-  pub lays-placing : Placing (instance k) a.m a.n a.places a.loads
-  lays-placing = record {
-    permitted = v.stands.permitted;
-    long = omega (arith, v.stands.reads.few, v.wide.3);
-    each = λ i i0 im. v.stands.kept i i0 (omega (arith, v.stands.reads.machines));
-  }
-
-  pub lays-known : Known a.m a.n a.minutes a.masks a.places a.loads
-  lays-known = record {
-    said = record {
-      I = instance k;
-      reads = v.stands.reads;
-      timed = omega (arith, v.stands.reads.most, v.wide.0);
-      listed = omega (arith, v.stands.reads.most, v.wide.1);
-    };
-    placing = lays-placing;
-  }
-
 -- ---- what is shown
 
--- one entry more of a list's front
-pub front-one : (l out : List ℕ) (b : ℕ) → length l ≡ 224 → b < 200 → out ≡ padded 200 (take b l) → set out b (get_or l b 0) ≡ padded 200 (take (b + 1) l)
-front-one l out b e h g =
-    ap (λ (o : List ℕ). set o b (get_or l b 0)) g
-    ∙ set-append 200 (take b l) b (get_or l b 0) (length-take-le b l (omega arith)) h
-    ∙ ap (padded 200) (let z : take b l ++ (get_or l b 0 ∷ []) ≡ take (b + 1) l = rw add-one (sym (take-suc l b 0 (omega arith))) in z)
+-- a number and its index
+numbered-found : (b : ℕ) → option_map (λ i. i + 1) (found b) ≡ numbered b
+numbered-found zero = refl
+numbered-found (suc b) = rw add-one refl
 
-pub review-shown : (k : Book) {m c : ℕ} {x : List ℕ} (r : Reviewed) → length r.loads ≡ 24 → m ≤ 24 → take c x ≡ places k
-    → ReviewIs (instance k) m c x r.loads r.makespan r.improving → ((i : ℕ) → m < i → i ≤ 24 → at r.loads i ≡ 0)
-    → r ≡ review_of k
+pub review-shown : (k : Book) {j : Jobs} {a : Laid} {makespan : ℕ} {improving : Option ℕ} → LaidAs k j a → length a.start.loads ≡ 24
+    → ReviewIs (instance k) j a.start makespan improving → {number : Option ℕ} → number ≡ option_map (λ i. i + 1) improving
+    → record { loads = a.start.loads; makespan = makespan; improving = number } ≡ review_of k
 unfolding review_of
-review-shown k {m} {c} {x} r e f t h z =
+review-shown k {j} {a} {makespan} {improving} v e h {number} q =
     let I = instance k in
-    let loads : r.loads ≡ padded 24 (review I (places k)).loads =
-    padded-by 24 m r.loads _ e f (h.each ∙ ap (λ (y : List ℕ). (review I y).loads) t) z in
-    let greatest : r.makespan ≡ (review I (places k)).makespan = h.greatest ∙ ap (λ (y : List ℕ). (review I y).makespan) t in
-    let lowest : r.improving ≡ (review I (places k)).improving = h.lowest ∙ ap (λ (y : List ℕ). (review I y).improving) t in
-    ap (λ (p : List ℕ). record { loads = p; makespan = r.makespan; improving = r.improving }) loads
-    ∙ ap (λ (a : ℕ). record { loads = padded 24 (review I (places k)).loads; makespan = a; improving = r.improving }) greatest
-    ∙ ap (λ (b : ℕ). record { loads = padded 24 (review I (places k)).loads; makespan = (review I (places k)).makespan; improving = b }) lowest
+    let t = v.shown in
+    let each : a.start.loads ≡ padded 24 (review I (places k)).loads =
+    padded-by 24 j.m a.start.loads _ e v.stands.reads.few (h.each ∙ ap (λ (y : List ℕ). (review I y).loads) t) v.rest in
+    let greatest : makespan ≡ (review I (places k)).makespan = h.greatest ∙ ap (λ (y : List ℕ). (review I y).makespan) t in
+    let lowest : number ≡ numbered (review I (places k)).improving =
+    q ∙ ap (option_map (λ i. i + 1)) h.lowest ∙ numbered-found _ ∙ ap (λ (y : List ℕ). numbered (review I y).improving) t in
+    rw (each, greatest, lowest) refl

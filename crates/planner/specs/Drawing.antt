@@ -13,7 +13,7 @@ pub record Draws (I : Instance) (c : ℕ) (x : Assignment) (d : Drawn) : Type 0 
   pub level : d.level ≡ (balanced I x).level
   pub lifts : d.lifts ≡ (balanced I x).lifts
   pub pushes : d.pushes ≡ (balanced I x).pushes
-  pub group : HoldsList (balanced I x).group d.group d.size
+  pub group : HoldsList (balanced I x).group d.group.list d.group.size
   pub places : take c d.places ≡ (balanced I x).assignment
 
 -- what the rules' settle from x gives

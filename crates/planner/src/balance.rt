@@ -1,100 +1,103 @@
 // The search over levels, by halving: every trial starts from the same places.
-ghost use Rattle.std.specs.Prelude.{◌≡◌, ◌+◌, ◌-◌, ◌/◌, ◌≤◌, ◌<◌, length, take};
+ghost use Rattle.std.specs.Prelude.{◌≡◌, ◌+◌, ◌<◌, ◌^◌, take};
 ghost use Rattle.rules.specs.Instance.{Instance};
 ghost use Rattle.rules.specs.Load.{longest, makespan};
 ghost use Rattle.trials.specs.Attempt.{Standing};
-ghost use Rattle.planner.specs.Search.{learned, Sought};
+ghost use Rattle.planner.specs.Search.{failed1, failed_set, halfway, learned, Sought};
 
-use arrays::{JOBS, MACHINES};
+use arrays::{Jobs, Placement};
 use trials::trial::{Attempt, try_level};
 
-// The level of the places kept, with their loads and counts, and one more than the highest level known to fail, with its group as a
-// set; 0 and no machine while none has failed. Beside them the places from which every trial starts, and their loads.
+// A level that failed, and its group as a set.
+#[derive(Clone, Copy)]
+pub struct Failure {
+    pub level: u32,
+    pub group: u32,
+}
+
+// The highest level known to fail, none while none has failed; the level kept, with where its trial ended and its counts; and where every
+// trial starts.
 #[derive(Clone, Copy)]
 pub struct Search {
-    pub failed1: u32,
-    pub group: u32,
+    pub failed: Option<Failure>,
     pub level: u32,
-    pub places: [u8; JOBS],
-    pub loads: [u32; MACHINES],
+    pub kept: Placement,
     pub lifts: u32,
     pub pushes: u32,
-    pub start: [u8; JOBS],
-    pub standing: [u32; MACHINES],
+    pub start: Placement,
 }
 
-// What a trial at level a adds.
-fn learn(s: Search, a: u32, t: Attempt) -> Search
-    requires { a < 4294967295 }
-    ensures { result ≡ learned s a t }
-{
-    if t.passed {
-        let start = s.start;
-        let standing = s.standing;
-        let places = t.places;
-        let loads = t.loads;
-        return Search {
-            failed1: s.failed1,
-            group: s.group,
-            level: a,
-            places,
-            loads,
-            lifts: t.lifts,
-            pushes: t.pushes,
-            start,
-            standing,
-        };
+impl Search {
+    // The lowest level that is not known to fail.
+    fn lowest(&self) -> u32
+        requires { failed1 self.now.failed < 2 ^ 32 }
+        ensures { result ≡ failed1 self.now.failed }
+    {
+        match self.failed {
+            Some(failure) => failure.level + 1,
+            None => 0,
+        }
     }
-    let start = s.start;
-    let standing = s.standing;
-    let places = s.places;
-    let loads = s.loads;
-    Search {
-        failed1: a + 1,
-        group: t.group,
-        level: s.level,
-        places,
-        loads,
-        lifts: s.lifts,
-        pushes: s.pushes,
-        start,
-        standing,
+
+    // The level halfway from there to the one kept; none where no level is left between them.
+    fn halfway(&self) -> Option<u32>
+        requires { failed1 self.now.failed + self.now.level < 2 ^ 32 }
+        ensures { result ≡ halfway self.now }
+    {
+        let lowest = self.lowest();
+        if lowest < self.level {
+            Some((lowest + self.level - 1) / 2)
+        } else {
+            None
+        }
+    }
+
+    // The machines of the group of the highest failed level, none while none has failed.
+    pub fn group(&self) -> u32
+        ensures { result ≡ failed_set self.now.failed }
+    {
+        match self.failed {
+            Some(failure) => failure.group,
+            None => 0,
+        }
+    }
+
+    // What a trial at level a adds.
+    fn learn(self, a: u32, t: Attempt) -> Search
+        ensures { result ≡ learned self a t }
+    {
+        match t.failed {
+            Some(group) => Search {
+                failed: Some(Failure { level: a, group }),
+                ..self
+            },
+            None => Search {
+                level: a,
+                kept: t.end,
+                lifts: t.lifts,
+                pushes: t.pushes,
+                ..self
+            },
+        }
     }
 }
 
-// From places of this makespan until no level is left between the highest failed and the one kept.
-pub fn balance(
-    places: [u8; JOBS],
-    loads: [u32; MACHINES],
-    minutes: &[u16],
-    masks: &[u32],
-    m: usize,
-    n: usize,
-    most: u32,
-    highest: u32,
-) -> Search
-    requires standing { (I : Instance) × Standing I m n minutes.now masks.now places loads × (most ≡ longest I) × (highest ≡ makespan I (take n places)) }
-    requires n_in_bounds { (n ≤ length minutes.now) × (n ≤ length masks.now) × (most ≤ 1440) × (highest ≤ 322560) }
-    ensures { (I : Instance) → Standing I m n minutes.now masks.now places loads → most ≡ longest I
-        → highest ≡ makespan I (take n places) → Sought I m n (take n places) result }
+// From a placement of this makespan until no level is left between the highest failed and the one kept.
+pub fn balance(jobs: &Jobs, start: Placement, most: u32, highest: u32) -> Search
+    requires { (I : Instance) × Standing I jobs.now start × (most ≡ longest I) × (highest ≡ makespan I (take jobs.now.n start.places)) }
+    ensures { (I : Instance) → Standing I jobs.now start → most ≡ longest I → highest ≡ makespan I (take jobs.now.n start.places)
+        → Sought I jobs.now (take jobs.now.n start.places) result }
 {
     let mut s = Search {
-        failed1: 0,
-        group: 0,
+        failed: None,
         level: highest,
-        places,
-        loads,
+        kept: start,
         lifts: 0,
         pushes: 0,
-        start: places,
-        standing: loads,
+        start,
     };
-    while s.failed1 < s.level {
-        let a = (s.failed1 + s.level - 1) / 2;
-        let from = s.start;
-        let held = s.standing;
-        let t = try_level(from, held, minutes, masks, m, n, a, a + most);
-        s = learn(s, a, t);
+    while let Some(a) = s.halfway() {
+        s = s.learn(a, try_level(s.start, jobs, a, a + most));
     }
     s
 }

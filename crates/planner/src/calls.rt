@@ -6,7 +6,7 @@ ghost use Rattle.planner.specs.Calls.{ReviewAnswered, TrialAnswered, balance_of,
 
 use crate::drawn::{draw, rest};
 use crate::laid::lay;
-use crate::{Balanced, Reviewed, Settled, Tried};
+use crate::{Balanced, Outcome, Reviewed, Settled, Tried};
 use arrays::JOBS;
 use arrays::scan::{largest_load, longest_of, total_of};
 use scans::group::members_of;
@@ -20,81 +20,45 @@ fn front(places: [u8; JOBS], n: usize) -> [u8; 200]
     ensures { result ≡ padded 200 (take n places) }
 {
     let mut out = [0u8; 200];
-    let mut b: usize = 0;
-    while b < n {
-        out[b] = places[b];
-        b += 1;
-    }
+    out[..n].copy_from_slice(&places[..n]);
     out
 }
 
-// All loads, the makespan, and the lowest batch that improves, 0 where none does.
+// All loads, the makespan, and the lowest batch that improves, none where none does.
 pub fn review(sheet: Sheet) -> Reviewed
     requires { Sound sheet }
     ensures { ReviewAnswered (book_of sheet) result }
 {
     let a = lay(sheet);
-    let minutes = a.minutes;
-    let masks = a.masks;
-    let places = a.places;
-    let loads = a.loads;
-    let makespan = largest_load(&loads, a.m);
-    let improving = first_improving(&loads, &places, &minutes, &masks, a.n, a.m);
+    let jobs = a.jobs();
     Reviewed {
-        loads,
-        makespan,
-        improving,
+        loads: a.start.loads,
+        makespan: largest_load(&a.start.loads, jobs.m),
+        improving: first_improving(&jobs, &a.start).map(|b| b + 1),
     }
 }
 
 // One trial at a level; a level above the total minutes is refused.
-pub fn trial(sheet: Sheet, level: u32) -> Tried
+pub fn trial(sheet: Sheet, level: u32) -> Result<Tried, Refusal>
     requires { Sound sheet }
     ensures { TrialAnswered (book_of sheet) level result }
 {
-    let batches = sheet.batches();
     let a = lay(sheet);
-    let minutes = a.minutes;
-    let masks = a.masks;
-    if total_of(&minutes, a.n) < level {
-        return Tried {
-            refusal: Refusal::LevelAbove,
-            passed: false,
-            lifts: 0,
-            pushes: 0,
-            places: [0u8; 200],
-            size: 0,
-            group: [0u8; 24],
-        };
+    let jobs = a.jobs();
+    if total_of(jobs.minutes, jobs.n) < level {
+        return Err(Refusal::LevelAbove);
     }
-    let places = a.places;
-    let loads = a.loads;
-    let limit = level + longest_of(&minutes, a.n);
-    let t = try_level(places, loads, &minutes, &masks, a.m, a.n, level, limit);
-    if t.passed {
-        let kept = t.places;
-        let shown = front(kept, batches);
-        return Tried {
-            refusal: Refusal::Nothing,
-            passed: true,
-            lifts: t.lifts,
-            pushes: t.pushes,
-            places: shown,
-            size: 0,
-            group: [0u8; 24],
-        };
-    }
-    let g = members_of(t.group, a.m);
-    let list = g.list;
-    Tried {
-        refusal: Refusal::Nothing,
-        passed: false,
+    let limit = level + longest_of(jobs.minutes, jobs.n);
+    let t = try_level(a.start, &jobs, level, limit);
+    let outcome = match t.failed {
+        Some(group) => Outcome::Failed(members_of(group, jobs.m)),
+        None => Outcome::Passed(front(t.end.places, sheet.batches())),
+    };
+    Ok(Tried {
+        outcome,
         lifts: t.lifts,
         pushes: t.pushes,
-        places: [0u8; 200],
-        size: g.size,
-        group: list,
-    }
+    })
 }
 
 // The search over levels from the standing places: the figures, and the sheet with the places that it leaves, before settling.
@@ -102,26 +66,16 @@ pub fn balance(sheet: Sheet) -> Balanced
     requires { Sound sheet }
     ensures { result ≡ balance_of (book_of sheet) }
 {
-    let batches = sheet.batches();
     let a = lay(sheet);
-    let minutes = a.minutes;
-    let masks = a.masks;
-    let places = a.places;
-    let loads = a.loads;
-    let marks = a.marks;
-    let d = draw(places, loads, &minutes, &masks, &marks, a.m, a.n);
-    let list = d.group;
-    let end = d.places;
-    let after = sheet.with_places(front(end, batches));
+    let d = draw(&a.jobs(), &a.marks, a.start);
     Balanced {
         makespan: d.makespan,
         bound: d.bound,
         level: d.level,
         lifts: d.lifts,
         pushes: d.pushes,
-        size: d.size,
-        group: list,
-        sheet: after,
+        group: d.group,
+        sheet: sheet.with_places(front(d.places, sheet.batches())),
     }
 }
 
@@ -130,18 +84,11 @@ pub fn settle(sheet: Sheet) -> Settled
     requires { Sound sheet }
     ensures { result ≡ settle_of (book_of sheet) }
 {
-    let batches = sheet.batches();
     let a = lay(sheet);
-    let minutes = a.minutes;
-    let masks = a.masks;
-    let places = a.places;
-    let loads = a.loads;
-    let z = rest(places, loads, &minutes, &masks, a.m, a.n);
-    let rested = z.places;
-    let after = sheet.with_places(front(rested, batches));
+    let z = rest(&a.jobs(), a.start);
     Settled {
         makespan: z.makespan,
         moves: z.moves,
-        sheet: after,
+        sheet: sheet.with_places(front(z.places, sheet.batches())),
     }
 }

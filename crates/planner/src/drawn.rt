@@ -7,12 +7,12 @@ ghost use Rattle.planner.specs.Drawing.{Draws, Rests};
 
 use crate::balance::balance;
 use arrays::scan::{largest_load, longest_of};
-use arrays::{JOBS, MACHINES};
-use scans::group::{bound_of, members_of};
+use arrays::{JOBS, Jobs, Placement};
+use scans::group::{Members, bound_of, members_of};
 use scans::marks::marks_of;
 use settling::settle::settle;
 
-// What balance answers, its group as a list with its size, and the places that it leaves.
+// What balance answers, and the places that it leaves.
 #[derive(Clone, Copy)]
 pub struct Drawn {
     pub makespan: u32,
@@ -20,44 +20,38 @@ pub struct Drawn {
     pub level: u32,
     pub lifts: u32,
     pub pushes: u32,
-    pub size: usize,
-    pub group: [u8; MACHINES],
+    pub group: Members,
     pub places: [u8; JOBS],
 }
 
-// Balance from these places, whose loads are `loads`; `marks` are those of the jobs' lists.
-pub fn draw(
-    places: [u8; JOBS],
-    loads: [u32; MACHINES],
-    minutes: &[u16],
-    masks: &[u32],
-    marks: &[u8],
-    m: usize,
-    n: usize,
-) -> Drawn
-    requires standing { (I : Instance) × Standing I m n minutes.now masks.now places loads × Marked I n marks.now }
-    requires n_in_bounds { (n ≤ length minutes.now) × (n ≤ length masks.now) × (n * 24 ≤ length marks.now) }
-    ensures { (I : Instance) → Standing I m n minutes.now masks.now places loads → Marked I n marks.now
-        → Draws I n (take n places) result }
+// Balance from where the jobs stand; `marks` are those of their lists.
+pub fn draw(jobs: &Jobs, marks: &[u8], start: Placement) -> Drawn
+    requires standing { (I : Instance) × Standing I jobs.now start × Marked I jobs.now.n marks.now }
+    requires n_in_bounds { jobs.now.n * 24 ≤ length marks.now }
+    ensures { (I : Instance) → Standing I jobs.now start → Marked I jobs.now.n marks.now
+        → Draws I jobs.now.n (take jobs.now.n start.places) result }
 {
-    let most = longest_of(minutes, n);
-    let highest = largest_load(&loads, m);
-    let s = balance(places, loads, minutes, masks, m, n, most, highest);
-    let g = members_of(s.group, m);
-    let group = marks_of(s.group);
-    let bound = bound_of(most, minutes, marks, n, &group, g.size as u32);
-    let ends = s.loads;
-    let list = g.list;
-    let end = s.places;
+    let most = longest_of(jobs.minutes, jobs.n);
+    let highest = largest_load(&start.loads, jobs.m);
+    let s = balance(jobs, start, most, highest);
+    let set = s.group();
+    let group = members_of(set, jobs.m);
+    let bound = bound_of(
+        most,
+        jobs.minutes,
+        marks,
+        jobs.n,
+        &marks_of(set),
+        group.size as u32,
+    );
     Drawn {
-        makespan: largest_load(&ends, m),
+        makespan: largest_load(&s.kept.loads, jobs.m),
         bound,
         level: s.level,
         lifts: s.lifts,
         pushes: s.pushes,
-        size: g.size,
-        group: list,
-        places: end,
+        group,
+        places: s.kept.places,
     }
 }
 
@@ -69,25 +63,15 @@ pub struct Rested {
     pub places: [u8; JOBS],
 }
 
-// Settle from these places, whose loads are `loads`.
-pub fn rest(
-    places: [u8; JOBS],
-    loads: [u32; MACHINES],
-    minutes: &[u16],
-    masks: &[u32],
-    m: usize,
-    n: usize,
-) -> Rested
-    requires standing { (I : Instance) × Standing I m n minutes.now masks.now places loads }
-    requires n_in_bounds { (n ≤ length minutes.now) × (n ≤ length masks.now) × (m ≤ length loads) }
-    ensures { (I : Instance) → Standing I m n minutes.now masks.now places loads → Rests I n (take n places) result }
+// Settle from where the jobs stand.
+pub fn rest(jobs: &Jobs, start: Placement) -> Rested
+    requires { (I : Instance) × Standing I jobs.now start }
+    ensures { (I : Instance) → Standing I jobs.now start → Rests I jobs.now.n (take jobs.now.n start.places) result }
 {
-    let z = settle(places, loads, minutes, masks, n, m);
-    let ends = z.loads;
-    let rested = z.places;
+    let z = settle(jobs, start);
     Rested {
-        makespan: largest_load(&ends, m),
+        makespan: largest_load(&z.end.loads, jobs.m),
         moves: z.moves,
-        places: rested,
+        places: z.end.places,
     }
 }

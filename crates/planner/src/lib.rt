@@ -1,7 +1,9 @@
 // The planner over the sheet: review, the single trial, balance and settle.
 #![tactic(auto)]
 
-use sheet::{Refusal, Sheet};
+use arrays::MACHINES;
+use scans::group::Members;
+use sheet::Sheet;
 
 mod balance;
 pub mod calls;
@@ -9,30 +11,32 @@ mod drawn;
 mod items;
 mod laid;
 
-// What a review answers: the load of each machine, 0 past the last, the greatest, and the lowest job that would finish earlier
-// elsewhere, 0 where none would.
+// What a review answers: the load of each machine, 0 past the last, the greatest, and the number of the lowest job that would finish
+// earlier elsewhere.
 #[derive(Clone, Copy)]
 pub struct Reviewed {
-    pub loads: [u32; 24],
+    pub loads: [u32; MACHINES],
     pub makespan: u32,
-    pub improving: usize,
+    pub improving: Option<usize>,
 }
 
-// What a trial answers: its refusal, or Nothing; pass or failure; lifts and pushes; and the places of a pass, or the group of a
-// failure with its size. Whatever is not said is 0.
+// How a trial ends: the places of the batches, 0 past the last (an array, since the planner has no heap), or the group of a failure.
+#[derive(Clone, Copy)]
+pub enum Outcome {
+    Passed([u8; 200]),
+    Failed(Members),
+}
+
+// What a trial answers.
 #[derive(Clone, Copy)]
 pub struct Tried {
-    pub refusal: Refusal,
-    pub passed: bool,
+    pub outcome: Outcome,
     pub lifts: u32,
     pub pushes: u32,
-    pub places: [u8; 200],
-    pub size: usize,
-    pub group: [u8; 24],
 }
 
 // What balance answers: its makespan, the lower bound, the level kept with the lifts and pushes of its trial, the group of the highest
-// failed level with its size, 0 where none failed, and the sheet with its new places.
+// failed level, of no machine where none failed, and the sheet with its new places.
 #[derive(Clone, Copy)]
 pub struct Balanced {
     pub makespan: u32,
@@ -40,8 +44,7 @@ pub struct Balanced {
     pub level: u32,
     pub lifts: u32,
     pub pushes: u32,
-    pub size: usize,
-    pub group: [u8; 24],
+    pub group: Members,
     pub sheet: Sheet,
 }
 

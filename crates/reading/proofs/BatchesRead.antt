@@ -5,7 +5,7 @@ use mathlib.Core.Bool.{true}
 use mathlib.Core.List.{List, [], ◌∷◌, ◌++◌}
 use native.Mathlib.Omega.{arith}
 use borrow.Author.Tests.{le-leb}
-use lib.ListN.{length, drop, replicate, drop_of_length-le, length-append}
+use lib.ListN.{length, drop, drop_of_length-le, length-append}
 use lib.Seq.{drop-cons}
 use Rattle.rules.specs.Fold.{every}
 use Rattle.rules.specs.Refusal.{malformed}
@@ -13,14 +13,15 @@ use Rattle.rules.specs.Sheet.{Book, Batch}
 use Rattle.rules.specs.Read.{Reading, batch_line, accepted, refused_at, batch_lines}
 use Rattle.rules.specs.Render.{mark}
 use Rattle.theory.proofs.Member.{every_append, every_one}
-use Rattle.sheet.specs.declared.Refusal.TheVariants.{Nothing, Malformed}
+use Rattle.std.specs.Prelude.{Ok, Err}
+use Rattle.sheet.specs.declared.Fault.{Fault}
+use Rattle.sheet.specs.declared.Refusal.TheVariants.{Malformed}
 use Rattle.sheet.specs.declared.Sheet.{Sheet}
 use Rattle.reading.specs.declared.Line.{Line}
-use Rattle.sheet.specs.Represent.{padded, rows, sheet_of, appended, held}
-use Rattle.sheet.specs.Answers.{read_as, unread}
+use Rattle.sheet.specs.Represent.{padded, sheet_of, appended, empty}
+use Rattle.sheet.specs.Answers.{fault, read_as}
 use Rattle.reading.specs.Lines.{line_as}
-use Rattle.sheet.proofs.Padded.{length-padded}
-use Rattle.sheet.proofs.Represent.{narrow, length-rows, append-law}
+use Rattle.sheet.proofs.Represent.{narrow, append-law}
 use Rattle.reading.proofs.PartsRead.{LineGiven, line_refused}
 
 -- the book of the calibrations l and the batches bs
@@ -48,7 +49,7 @@ module _ (s : List ℕ) (at m n : ℕ) (calibrations : List ℕ) where
 
   -- no line is read yet
   pub none_yet : (row : List ℕ) → at ≤ length s → padded 24 calibrations ≡ row →
-      BatchesSofar (held m 0 row (replicate 200 0) (replicate 200 0) (replicate 200 0) (replicate 200 0) (replicate 4800 0)) at 0
+      BatchesSofar (empty m row) at 0
   unfolding every sheet_of
   none_yet row h e =
       let c : n - 0 ≡ n = omega arith in
@@ -63,12 +64,10 @@ module _ (s : List ℕ) (at m n : ℕ) (calibrations : List ℕ) where
       }
 
   module _ (sheet : Sheet) (next i : ℕ) (f : BatchesSofar sheet next i) where
-    pub lists-long : n ≤ 200 → length sheet.lists ≡ 4800
+    -- a line more has room
+    pub size-is : sheet.n ≡ i
     unfolding sheet_of
-    lists-long h =
-        let r = rows f.batches in
-        ap (λ (z : Sheet). length z.lists) f.same
-        ∙ length-padded 4800 r (omega (arith, length-rows f.batches f.fit, f.count, f.few))
+    size-is = ap (λ (z : Sheet). z.n) f.same ∙ f.count
 
     step : (x : Line) (h : next ≤ length s) (g : LineGiven s next h m x) → i < n →
         onward (i + 1) (f.batches ++ (g.batch ∷ [])) x.next ≡ whole
@@ -87,7 +86,8 @@ module _ (s : List ℕ) (at m n : ℕ) (calibrations : List ℕ) where
         let b : Batch = g.batch in
         let e : appended sheet x.minutes x.place x.started x.count x.list
         ≡ appended (sheet_of (booked m calibrations f.batches)) b.minutes b.place (mark b.started) (length b.list) (padded 24 b.list) =
-        rw (f.same, g.minutes, g.place, g.started, g.count, g.list) in
+        ap (λ (y : Line). appended sheet y.minutes y.place y.started y.count y.list) g.is
+        ∙ ap (λ (z : Sheet). appended z b.minutes b.place (mark b.started) (length b.list) (padded 24 b.list)) f.same in
         record {
           batches = f.batches ++ (b ∷ []);
           count = omega (arith, length-append f.batches (b ∷ []), f.count);
@@ -99,28 +99,25 @@ module _ (s : List ℕ) (at m n : ℕ) (calibrations : List ℕ) where
         }
 
     -- the next line is refused
-    pub then-refused : (x : Line) → x ≡ line_as (length s) (i + 3) (batch_line m (drop next s)) → (x.refusal ≡ Nothing → ⊥) → i < n
-        → unread x.refusal x.line ≡ read_as whole
-    then-refused x e o l =
+    pub then-refused : i < n → {x : Fault} → Err x ≡ line_as (length s) (i + 3) (batch_line m (drop next s)) → Err x ≡ read_as whole
+    then-refused l e =
         let c : suc (n - (i + 1)) ≡ n - i = omega arith in
-        line_refused s next m calibrations (n - (i + 1)) (i + 3) f.batches x e o
+        line_refused s next m calibrations (n - (i + 1)) (i + 3) f.batches e
         ∙ ap read_as (ap (λ (k : ℕ). batch_lines m calibrations k (i + 3) f.batches (drop next s)) c ∙ f.rest)
 
-    -- bytes are left over
-    pub left_over : n ≤ i → next < length s → unread Malformed (i + 3) ≡ read_as whole
-    unfolding batch_lines
-    left_over l h =
-        let c : n - i ≡ 0 = omega arith in
-        let e : onward i f.batches next ≡ refused_at malformed (i + 3) =
-        rw (c, drop-cons s next 0 h) in
-        ap read_as (sym e ∙ f.rest)
+    module _ (l : i ≡ n) where
+      -- bytes are left over
+      pub left_over : next < length s → Err (fault Malformed (n + 3)) ≡ read_as whole
+      unfolding batch_lines
+      left_over h =
+          let c : n - i ≡ 0 = omega arith in
+          let e : onward i f.batches next ≡ refused_at malformed (i + 3) = rw (c, drop-cons s next 0 h) in
+          ap (λ (k : ℕ). Err (fault Malformed (k + 3))) (sym l) ∙ ap read_as (sym e ∙ f.rest)
 
-    -- nothing follows
-    pub all_read : n ≤ i → length s ≤ next
-        → record { refusal = Nothing; line = 0; sheet = sheet } ≡ read_as whole
-    unfolding batch_lines
-    all_read l h =
-        let c : n - i ≡ 0 = omega arith in
-        let e : onward i f.batches next ≡ accepted (booked m calibrations f.batches) =
-        rw (c, drop_of_length-le s h) in
-        ap (λ (z : Sheet). record { refusal = Nothing; line = 0; sheet = z }) f.same ∙ ap read_as (sym e ∙ f.rest)
+      -- nothing follows
+      pub all_read : length s ≤ next → Ok sheet ≡ read_as whole
+      unfolding batch_lines
+      all_read h =
+          let c : n - i ≡ 0 = omega arith in
+          let e : onward i f.batches next ≡ accepted (booked m calibrations f.batches) = rw (c, drop_of_length-le s h) in
+          ap Ok f.same ∙ ap read_as (sym e ∙ f.rest)

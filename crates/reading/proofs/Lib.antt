@@ -1,4 +1,7 @@
-pub mod Lines
-pub mod PartsRead
+pub mod Rows
 pub mod CalibrationsRead
+pub mod Lines
+pub mod LineParts
+pub mod PartsRead
 pub mod BatchesRead
+pub mod HeadRead

@@ -1,56 +1,38 @@
 -- What the readers of line 2 and of a batch line answer, by the rules.
-use Rattle.std.specs.Prelude.{ℕ, ◌-◌, Bool, List, [], length, replicate}
+use Rattle.std.specs.Prelude.{ℕ, ◌-◌, Bool, List, [], length, Result, Ok, Err}
 use Rattle.rules.specs.Fold.{pick}
 use Rattle.rules.specs.Refusal.{bad_place, bad_order}
 use Rattle.rules.specs.Sheet.{Batch, ascending}
 use Rattle.rules.specs.Read.{Part, gives, refuses, and_then, or_refuse, end_of_line, instruments_at, place_or, good_place}
 use Rattle.rules.specs.Render.{mark}
+use Rattle.sheet.specs.declared.Fault.{Fault}
 use Rattle.sheet.specs.declared.Refusal.{Refusal}
-use Rattle.sheet.specs.declared.Refusal.TheVariants.{Nothing, Malformed, BadOrder}
+use Rattle.sheet.specs.declared.Refusal.TheVariants.{Malformed, BadOrder}
 use Rattle.reading.specs.declared.Calibrated.{Calibrated}
 use Rattle.reading.specs.declared.Line.{Line}
 use Rattle.sheet.specs.Represent.{padded}
-use Rattle.sheet.specs.Answers.{coded}
+use Rattle.sheet.specs.Answers.{coded, fault}
 
--- ---- line 2 of a sheet of w bytes: where it is refused, all that it would give is 0
+-- line 2 of a sheet of w bytes
+abbrev pub calibrated_as : ℕ → Part (List ℕ) → Result Calibrated Fault
+calibrated_as w (gives l r) = Ok (record { calibrations = padded 24 l; next = w - length r })
+calibrated_as w (refuses e) = Err (fault (coded e) 2)
 
-abbrev pub no_calibrations : Refusal → Calibrated
-no_calibrations e = record { refusal = e; line = 2; calibrations = replicate 24 0; next = 0 }
-
-abbrev pub calibrated_as : ℕ → Part (List ℕ) → Calibrated
-calibrated_as w (gives l r) = record { refusal = Nothing; line = 0; calibrations = padded 24 l; next = w - length r }
-calibrated_as w (refuses e) = no_calibrations (coded e)
-
--- ---- a batch line of a sheet of w bytes, at line j: where it is refused, all that it would give is 0
-
-abbrev pub no_line : Refusal → ℕ → Line
-no_line e j = record {
-  refusal = e;
-  line = j;
-  minutes = 0;
-  place = 0;
-  started = 0;
-  count = 0;
-  list = replicate 24 0;
-  next = 0;
-}
-
-abbrev pub line_as : ℕ → ℕ → Part Batch → Line
-line_as w j (gives b r) = record {
-  refusal = Nothing;
-  line = 0;
+-- a batch line of a sheet of w bytes, at line j
+abbrev pub line_as : ℕ → ℕ → Part Batch → Result Line Fault
+line_as w j (gives b r) = Ok (record {
   minutes = b.minutes;
   place = b.place;
   started = mark b.started;
   count = length b.list;
   list = padded 24 b.list;
   next = w - length r;
-}
-line_as w j (refuses e) = no_line (coded e) j
+})
+line_as w j (refuses e) = Err (fault (coded e) j)
 
--- why a line may not end behind a list that ascends or not, where there is an LF or not
-abbrev pub bad_end : Bool → Bool → Refusal
-bad_end ordered ended = pick ordered (pick ended Nothing Malformed) BadOrder
+-- whether a line may end behind a list that ascends or not, where there is an LF or not
+abbrev pub bad_end : Bool → Bool → Result Unit Refusal
+bad_end ordered ended = pick ordered (pick ended (Ok tt) (Err Malformed)) (Err BadOrder)
 
 -- a batch line of t minutes, place p and mark s, from its list of c instruments on
 abbrev pub line_list : ℕ → ℕ → ℕ → Bool → ℕ → List ℕ → Part Batch

@@ -48,9 +48,6 @@ pow-few m h = (pow_pos m, pow_mono {i = m} {j = 24} h)
 all-word : (m : ℕ) → m ≤ 24 → 1 * 2 ^ m % 4294967296 ≡ 2 ^ m
 all-word m h = let w = pow-few m h in rw (one-mul (2 ^ m)) (mod-eq_of_lt (omega arith))
 
-pub all-some : (m : ℕ) → m ≤ 24 → 1 ≤ 1 * 2 ^ m % 4294967296
-all-some m h = rw (all-word m h) (pow-few m h).0
-
 pub all_set : (m : ℕ) → m ≤ 24 → SetOf (λ i. leb i m) (1 * 2 ^ m % 4294967296 - 1)
 all_set m h = rw (all-word m h) record {
   small = let w = pow-few m h in omega arith;

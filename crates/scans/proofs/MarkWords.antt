@@ -1,13 +1,18 @@
 -- Marks in words of four: a word has nothing outside another just where none of its bytes has.
-use Prim.Native.Nat.{ℕ, zero, suc, ◌+◌, ◌-◌, ◌*◌, ◌/◌, ◌%◌, ◌^◌, ◌≤◌, ◌<◌}
+use Prim.Native.Nat.{ℕ, zero, suc, ◌+◌, ◌-◌, ◌*◌, ◌≤◌, ◌<◌}
 use mathlib.Core.Path.{◌≡◌, refl, sym, ap, ap₂, ◌∙◌}
 use mathlib.Core.Bool.{Bool, true, false, not}
-use mathlib.Core.List.{List}
+use mathlib.Core.List.{List, [], ◌∷◌, ◌++◌, map}
+use native.Mathlib.Numerals.{add-one}
 use native.Mathlib.Omega.{arith}
 use lib.Bits.{bit_and, and_block}
-use lib.ListN.{get_or}
+use Rattle.std.specs.Bool.{MatchBool}
+use lib.ListN.{length, get_or}
 use lib.Dec.{eqb}
 use borrow.Author.Tests.{eqb-true, eqb-false, eq-eqb}
+use Rattle.std.specs.Int.{from_bool}
+use Rattle.std.specs.List.{range_with_len}
+use Rattle.std.proofs.lemmas.List.FromFn.{map-range_with_len_more, fill_by_all}
 use Rattle.rules.specs.Fold.{◌and◌, ◌or◌, pick, at, mem, every, all_to, list_to}
 use Rattle.rules.specs.Sheet.{is_instrument}
 use Rattle.rules.specs.LowerBound.{within}
@@ -72,7 +77,7 @@ module _ (l g : List ℕ) (small : (k : ℕ) → get_or l k 0 < 256) (small' : (
       end = omega arith
 
   -- nothing outside: four more bytes are covered
-  pub four-on : (k j : ℕ) → j ≡ k + 4 → covered k l g ≡ true → outside l g k ≡ 0 → covered j l g ≡ true
+  four-on : (k j : ℕ) → j ≡ k + 4 → covered k l g ≡ true → outside l g k ≡ 0 → covered j l g ≡ true
   unfolding covered fits all_to
   four-on k j z h e =
       let s : j ≡ suc (suc (suc (suc k))) = omega arith in
@@ -86,12 +91,24 @@ module _ (l g : List ℕ) (small : (k : ℕ) → get_or l k 0 < 256) (small' : (
   one c t i r = all-at c _ i r.0 r.1 t
 
   -- something outside: one of c bytes is not, with these four among them
-  pub four-off : (k c : ℕ) → k + 4 ≤ c → (outside l g k ≡ 0 → ⊥) → covered c l g ≡ false
+  four-off : (k c : ℕ) → k + 4 ≤ c → (outside l g k ≡ 0 → ⊥) → covered c l g ≡ false
   four-off k c h e =
       by_test (covered c l g)
       (λ t. absurd (e (eqb-true (outside l g k) 0 (four k
       ∙ and-mk _ _ (and-mk _ _ (and-mk _ _ (one c t _ (omega arith)) (one c t _ (omega arith))) (one c t _ (omega arith))) (one c t _ (omega arith))))))
       (λ t. t)
+
+  -- so by the words at all six places, or at one that has something outside
+  pub covered-words : (r : Bool)
+      → MatchBool r ((k : ℕ) → k < 6 → eqb (outside l g (k * 4)) 0 ≡ true) ((k : ℕ) × (k < 6) × (eqb (outside l g (k * 4)) 0 ≡ false))
+      → r ≡ covered 24 l g
+  unfolding covered all_to
+  covered-words false h = sym (four-off (h.0 * 4) 24 (omega (arith, h.1)) (eqb-false (outside l g (h.0 * 4)) 0 h.2))
+  covered-words true h = sym (walk 6 (omega arith))
+    where
+      walk : (k : ℕ) → k ≤ 6 → covered (k * 4) l g ≡ true
+      walk zero u = refl
+      walk (suc k) u = four-on (k * 4) (suc k * 4) (omega arith) (walk k (omega arith)) (eqb-true (outside l g (k * 4)) 0 (h k u))
 
 -- ---- marks
 
@@ -115,16 +132,23 @@ lies e = record { within = λ l g h p q. e ∙ ap₂ (covered 24) p q ∙ covere
 
 -- ---- the marks of a set
 
--- each is the word's digit
-pub digit-mark : (x k : ℕ) → x / 2 ^ k % 2 ≡ pick (has x (suc k)) 1 0
-unfolding has
-digit-mark x k = let e : suc k - 1 ≡ k = omega arith in rw e (digit (x / 2 ^ k))
-  where
-    digit : (y : ℕ) → y % 2 ≡ pick (eqb (y % 2) 1) 1 0
-    digit y =
-        by_test (eqb (y % 2) 1)
-        (λ t. rw t (eqb-true (y % 2) 1 t))
-        (λ t. let n = eqb-false (y % 2) 1 t in rw t (omega arith))
+digit-mark : (t : Bool) → from_bool t ≡ pick t 1 0
+digit-mark true = refl
+digit-mark false = refl
+
+list-range : (n : ℕ) (f : ℕ → ℕ) → map (λ k. f (suc k)) (range_with_len 0 n) ≡ list_to n f
+unfolding list_to
+list-range zero f = refl
+list-range (suc n) f =
+    (rw add-one at (map-range_with_len_more (λ k. f (suc k)) 0 n n (omega arith)))
+    ∙ ap (λ (l : List ℕ). l ++ f (suc n) ∷ []) (list-range n f)
+
+-- entered one after the other
+pub marks-of : (x : ℕ) (marks : List ℕ) → length marks ≡ 24 → ((k : ℕ) → k < 24 → get_or marks k 0 ≡ from_bool (has x (suc k)))
+    → marks ≡ list_to 24 (λ i. pick (has x i) 1 0)
+marks-of x marks h e =
+    fill_by_all (λ k. pick (has x (suc k)) 1 0) marks 24 0 h (λ k l. e k l ∙ digit-mark (has x (suc k)))
+    ∙ list-range 24 (λ i. pick (has x i) 1 0)
 
 -- those of the set that says a list are the list's
 pub set-marks : (list : List ℕ) (x : ℕ) → SetOf (λ i. mem i list) x → list_to 24 (λ i. pick (has x i) 1 0) ≡ marks_of list

@@ -1,119 +1,104 @@
 -- One move over arrays: where the job goes, that the loads have room for it, and what places and loads are after it.
 use Prim.Native.Nat.{ℕ, zero, suc, ◌+◌, ◌-◌, ◌≤◌, ◌<◌}
 use mathlib.Core.Path.{◌≡◌, sym, ap, subst, ◌∙◌}
-use mathlib.Core.Logic.{◌≢◌}
 use mathlib.Core.List.{List}
+use native.Mathlib.Numerals.{add-one}
 use native.Mathlib.Omega.{arith}
-use lib.ListN.{length, take, get_or, set}
-use lib.Seq.{drop-set-lt, get_or-set_other}
+use lib.ListN.{length, length-set, take, drop, get_or, set}
+use lib.Seq.{drop-set-lt}
+use Rattle.std.proofs.Common.{Some}
 use Rattle.rules.specs.Fold.{at, put, least_to}
 use Rattle.rules.specs.Instance.{Instance, Assignment, n, minutes_of}
-use Rattle.rules.specs.Load.{load}
 use Rattle.rules.specs.Settle.{mover, target, moved}
 use Rattle.theory.proofs.Fold.{at-put-same, length-put}
 use Rattle.theory.proofs.Makespan.{load-ge}
 use Rattle.theory.proofs.Review.{Improves}
 use Rattle.theory.proofs.Settling.{mover-some, target-better, moved-permitted}
-use Rattle.arrays.specs.Reads.{Reads, Kept}
-use Rattle.settling.specs.Settling.{other, Placing, Moved}
+use Rattle.arrays.specs.declared.Jobs.{Jobs}
+use Rattle.arrays.specs.declared.Placement.{Placement}
+use Rattle.arrays.specs.Found.{found}
+use Rattle.arrays.specs.Jobs.{Says}
+use Rattle.arrays.specs.Reads.{Kept}
+use Rattle.settling.specs.Settling.{shifted, Placing, Due, Moved}
 use Rattle.arrays.proofs.Take.{at_take, take_put}
 use Rattle.arrays.proofs.Entries.{at-index, put-put}
 use Rattle.arrays.proofs.Kept.{kept_on, kept_off}
-use Rattle.settling.proofs.Placing.{place_in, target_is}
+use Rattle.settling.proofs.Ranges.{found_some}
+use Rattle.settling.proofs.Placing.{others, place_in, target_is, InRange, in-range}
 
--- w minutes fewer on machine i, and then w more on machine j
-abbrev shifted : List ℕ → ℕ → ℕ → ℕ → List ℕ
-shifted l i j w = put (put l i (at l i - w)) j (at (put l i (at l i - w)) j + w)
+-- by number
+shifted-number : (l : List ℕ) (i j w : ℕ) → 0 < i
+    → shifted l (i - 1) j w ≡ put (put l i (at l i - w)) (suc j) (at (put l i (at l i - w)) (suc j) + w)
+shifted-number l zero j w p = absurd (omega arith)
+shifted-number l (suc i) j w p = let e : suc i - 1 ≡ i = omega arith in rw e
 
--- by index, between two machines
-shifted-index : (l : List ℕ) (i j w : ℕ) → 0 < i → 0 < j → i ≢ j
-    → set (set l (i - 1) (get_or l (i - 1) 0 - w)) (j - 1) (get_or l (j - 1) 0 + w) ≡ shifted l i j w
-shifted-index l zero j w p q d = absurd (omega arith)
-shifted-index l (suc i) zero w p q d = absurd (omega arith)
-shifted-index l (suc i) (suc j) w p q d =
-    let e : suc i - 1 ≡ i = omega arith in
-    let f : suc j - 1 ≡ j = omega arith in
-    rw (e, f, get_or-set_other l i j (get_or l i 0 - w) 0 (λ z. d (ap suc (sym z))))
-
--- they are the loads after job b goes from i to j
-shifted-kept : (I : Instance) (x : Assignment) (l : List ℕ) (b i j w : ℕ) → length x ≡ n I → 0 < b → b ≤ n I → I.m ≤ length l → Kept I x l
-    → w ≡ minutes_of I b → at x b ≡ i → 0 < i → i ≤ I.m → 0 < j → j ≤ I.m → Kept I (put x b j) (shifted l i j w)
-shifted-kept I x l b i j w size p q long k e on i0 im j0 jm =
-    subst (λ (y : Assignment). Kept I y (shifted l i j w)) (put-put x b 0 j)
+-- they are the loads after job b goes from machine i to machine j + 1
+shifted-kept : (I : Instance) (x : Assignment) (l : List ℕ) (b i j w : ℕ) → length x ≡ n I → 0 < b → b ≤ n I → I.m ≤ length l
+    → Kept I x l → w ≡ minutes_of I b → at x b ≡ i → 0 < i → i ≤ I.m → j < I.m → Kept I (put x b (suc j)) (shifted l (i - 1) j w)
+shifted-kept I x l b i j w size p q long k e on i0 im jm =
+    rw (shifted-number l i j w i0)
+    (subst (λ (y : Assignment). Kept I y (put (put l i (at l i - w)) (suc j) (at (put l i (at l i - w)) (suc j) + w))) (put-put x b 0 (suc j))
     (kept_on I (put x b 0) (put l i (at l i - w)) b (length-put x b 0 ∙ size) p q (omega (arith, length-put l i (at l i - w)))
-    (kept_off I x l b size p q long k w e i on i0 im) w e j (at-put-same x b 0 p (omega arith)) j0 jm)
+    (kept_off I x l b size p q long k w e i on i0 im) w e (suc j) (at-put-same x b 0 p (omega arith)) (omega arith) jm))
 
--- the job at index k goes to machine t, and the loads have room for it
-pub record Ready (m : ℕ) (lengths places loads : List ℕ) (k t : ℕ) : Type 0 where
-  pub goes : 0 < t
-  pub to : t ≤ m
-  pub has : get_or lengths k 0 ≤ get_or loads (get_or places k 0 - 1) 0
-  pub room : get_or loads (t - 1) 0 + get_or lengths k 0 < get_or loads (get_or places k 0 - 1) 0
+module _ {I : Instance} {j : Jobs} {p : Placement} (r : Says I j) (d : Placing I j p) (k : ℕ) (e : mover I (take j.n p.places) ≡ suc k) where
+  pub due_in : k < j.n
+  due_in = omega (arith, (mover-some I (take j.n p.places) k e).0, r.jobs)
 
-module _ {I : Instance} {m c : ℕ} {lengths sets places loads : List ℕ} (r : Reads I m c lengths sets) (p : Placing I m c places loads)
-    (k : ℕ) (e : mover I (take c places) ≡ suc k) where
-  pub due_in : k < c
-  due_in = omega (arith, (mover-some I (take c places) k e).0, r.jobs)
+  improving : Improves I (take j.n p.places) (suc k)
+  improving = (mover-some I (take j.n p.places) k e).1
 
-  improving : Improves I (take c places) (suc k)
-  improving = (mover-some I (take c places) k e).1
+  goes : least_to j.m (λ i. others j p (suc k) i) (λ i. at p.loads i) ≡ target I (take j.n p.places) (suc k)
+  goes = target_is r d (suc k) (omega arith) due_in
 
-  module _ (t : ℕ) (goes : t ≡ least_to m (λ i. other (at sets (suc k)) (at places (suc k)) i) (λ i. at loads i)) where
-    f : t ≡ target I (take c places) (suc k)
-    f = goes ∙ target_is r p (suc k) (omega arith) due_in
+  pub goes_some : 0 < least_to j.m (λ i. others j p (suc k) i) (λ i. at p.loads i)
+  goes_some = omega (arith, goes, (target-better I (take j.n p.places) (suc k) improving).0)
 
-    pub ready : Ready m lengths places loads k t
-    ready =
-        let u = due_in in
-        let x = take c places in
-        let q = place_in r p (suc k) (omega arith) u in
-        let z = target-better I x (suc k) improving in
-        let b = at_take c places (suc k) u in
-        let i = at-index loads (get_or places k 0) q.0 in
-        let held = p.each (get_or places k 0) q.0 q.1 in
-        let w = r.minutes (suc k) (omega arith) u in
-        let to : t ≤ m = omega (arith, z.1, f, r.machines) in
-        record {
-          goes = omega (arith, z.0, f);
-          to = to;
-          has = omega (arith, load-ge I x (suc k) (get_or places k 0) (omega arith) (omega (arith, r.jobs)) b);
-          room =
-              omega (
-                arith,
-                z.2.sooner,
-                ap (load I x) b,
-                ap (load I x) f,
-                at-index loads t (omega (arith, z.0, f)),
-                p.each t (omega (arith, z.0, f)) to,
-              );
-        }
+  -- its load is on its machine
+  pub loaded : get_or j.minutes.now k 0 ≤ get_or p.loads (get_or p.places k 0 - 1) 0
+  loaded =
+      let u = due_in in
+      let x = take j.n p.places in
+      let q = place_in r d (suc k) (omega arith) u in
+      let i = at-index p.loads (get_or p.places k 0) q.0 in
+      let held = d.each (get_or p.places k 0) q.0 q.1 in
+      let w = r.minutes (suc k) (omega arith) u in
+      omega (arith, load-ge I x (suc k) (get_or p.places k 0) (omega arith) (omega (arith, r.jobs)) (at_take j.n p.places (suc k) u))
 
-    pub relocated : Moved I m c places (set places k (t - 1 + 1))
-        (set (set loads (get_or places k 0 - 1) (get_or loads (get_or places k 0 - 1) 0 - get_or lengths k 0)) (t - 1) (get_or loads (t - 1) 0 + get_or lengths k 0)) (suc k)
+  module _ (t : ℕ) (some : Some t ≡ found (least_to j.m (λ i. others j p (suc k) i) (λ i. at p.loads i))) where
+    f : suc t ≡ target I (take j.n p.places) (suc k)
+    f = sym (found_some _ t some) ∙ goes
+
+    pub goes_in : t < j.m
+    goes_in = omega (arith, (target-better I (take j.n p.places) (suc k) improving).1, f, r.machines)
+
+    pub relocated : (q : Placement) → q.places ≡ set p.places k (t + 1)
+        → q.loads ≡ shifted p.loads (get_or p.places k 0 - 1) t (get_or j.minutes.now k 0) → Moved I j p q (suc k)
     unfolding moved
-    relocated =
-        let x = take c places in
+    relocated q places loads =
+        let x = take j.n p.places in
         let u = due_in in
-        let g = ready in
-        let q = place_in r p (suc k) (omega arith) u in
-        let apart : get_or places k 0 ≢ t = λ z. let s = ap (λ (v : ℕ). get_or loads (v - 1) 0) z in omega arith in
-        let back : t - 1 + 1 ≡ t = omega arith in
-        let s : take c (put places (suc k) t) ≡ put x (suc k) t = take_put c places (suc k) t u in
-        let a : put x (suc k) t ≡ moved I x (suc k) = ap (put x (suc k)) f in
-        rw (back, shifted-index loads (get_or places k 0) t (get_or lengths k 0) q.0 g.goes apart)
-        (record {
+        let g = goes_in in
+        let z = place_in r d (suc k) (omega arith) u in
+        let s : take j.n q.places ≡ put x (suc k) (suc t)
+        = ap (take j.n) (places ∙ ap (set p.places k) (add-one t)) ∙ take_put j.n p.places (suc k) (suc t) u in
+        let a : put x (suc k) (suc t) ≡ moved I x (suc k) = ap (put x (suc k)) f in
+        record {
           assignment = s ∙ a;
           placing = record {
-            permitted = rw (s, a) (moved-permitted p.permitted (suc k) improving);
-            long =
-                rw (length-put (put loads (get_or places k 0) (at loads (get_or places k 0) - get_or lengths k 0)) t _, length-put loads (get_or places k 0) _)
-                p.long;
+            permitted = rw (s, a) (moved-permitted d.permitted (suc k) improving);
+            long = omega (arith, ap length loads ∙ length-set _ t _ ∙ length-set p.loads _ _, d.long);
             each = λ i i0 im.
-                rw s
-                (shifted-kept I x loads (suc k) (get_or places k 0) t (get_or lengths k 0) p.permitted.size (omega arith) (omega (arith, r.jobs))
-                (omega (arith, p.long, r.machines)) (λ v v0 vm. p.each v v0 (omega (arith, r.machines))) (r.minutes (suc k) (omega arith) u)
-                (at_take c places (suc k) u) q.0 (omega (arith, q.1, r.machines)) g.goes (omega (arith, r.machines)) i i0
+                rw (loads, s)
+                (shifted-kept I x p.loads (suc k) (get_or p.places k 0) t (get_or j.minutes.now k 0) d.permitted.size (omega arith)
+                (omega (arith, r.jobs))
+                (omega (arith, d.long, r.machines)) (λ v v0 vm. d.each v v0 (omega (arith, r.machines))) (r.minutes (suc k) (omega arith) u)
+                (at_take j.n p.places (suc k) u) z.0 (omega (arith, z.1, r.machines)) (omega (arith, r.machines)) i i0
                 (omega (arith, r.machines)));
           };
-          rest = drop-set-lt c places k t u;
-        })
+          rest = ap (drop j.n) places ∙ drop-set-lt j.n p.places k (t + 1) u;
+        }
+
+-- what the code reads for the job that moves next
+pub due_range : {j : Jobs} {p : Placement} {k : ℕ} → Due j p (suc k) → InRange j p k
+due_range {k = k} d = in-range d.known k (due_in d.known.said.reads d.known.placing k d.next)

@@ -1,7 +1,6 @@
 -- Settling over arrays: what holds after some moves, what one more makes of it, and what stands at the end.
 use Prim.Native.Nat.{ℕ, zero, suc, ◌+◌, ◌*◌, ◌/◌, ◌≤◌}
 use mathlib.Core.Path.{◌≡◌, refl, sym, ap, ◌∙◌}
-use mathlib.Core.List.{List}
 use native.Mathlib.Numerals.{add-one}
 use native.Mathlib.Omega.{arith}
 use lib.ListN.{take, drop}
@@ -11,41 +10,39 @@ use Rattle.rules.specs.Load.{load}
 use Rattle.rules.specs.Settle.{mover, moved, squares, Settled, settle_by, settle}
 use Rattle.theory.proofs.Fold.{sum_to-ext}
 use Rattle.theory.proofs.Settling.{mover-some, move-lowers, run-still}
-use Rattle.arrays.specs.Reads.{Reads}
+use Rattle.arrays.specs.declared.Jobs.{Jobs}
+use Rattle.arrays.specs.declared.Placement.{Placement}
+use Rattle.arrays.specs.Jobs.{Says}
 use Rattle.settling.specs.Settling.{Placing, Moved, SettledTo}
 
--- ---- the sum of squared loads
-
-module _ {I : Instance} {m c : ℕ} {lengths sets : List ℕ} (r : Reads I m c lengths sets) where
-  pub squares-are : {places loads : List ℕ} → Placing I m c places loads → sum_to m (λ i. at loads i * at loads i) ≡ squares I (take c places)
-  unfolding squares
-  squares-are {places} {loads} p =
-      sum_to-ext m _ _ (λ i l u. rw (p.each i l u))
-      ∙ ap (λ (k : ℕ). sum_to k (λ i. load I (take c places) i * load I (take c places) i)) (sym r.machines)
+-- the sum of squared loads
+pub squares-are : {I : Instance} {j : Jobs} {p : Placement} → Says I j → Placing I j p
+    → sum_to j.m (λ i. at p.loads i * at p.loads i) ≡ squares I (take j.n p.places)
+unfolding squares
+squares-are {I} {j} {p} r d =
+    sum_to-ext j.m _ _ (λ i l u. rw (d.each i l u))
+    ∙ ap (λ (k : ℕ). sum_to k (λ i. load I (take j.n p.places) i * load I (take j.n p.places) i)) (sym r.machines)
 
 -- ---- the run
 
--- after some moves from the places `old`: the places and loads now, and the job that moves next
-pub record Run (I : Instance) (m c : ℕ) (old new loads : List ℕ) (moves next : ℕ) : Type 0 where
-  pub placing : Placing I m c new loads
-  pub rest : drop c new ≡ drop c old
-  pub due : mover I (take c new) ≡ next
+-- after some moves from `old`
+pub record Run (I : Instance) (j : Jobs) (old new : Placement) (moves : ℕ) : Type 0 where
+  pub placing : Placing I j new
+  pub rest : drop j.n new.places ≡ drop j.n old.places
   -- moves that are allowed and not made
   pub left : ℕ
-  pub enough : squares I (take c new) ≤ 2 * left + 1
-  pub same : settle_by I left (take c new) moves next ≡ settle I (take c old)
-  pub paid : 2 * moves + squares I (take c new) ≤ squares I (take c old)
+  pub enough : squares I (take j.n new.places) ≤ 2 * left + 1
+  pub same : settle_by I left (take j.n new.places) moves (mover I (take j.n new.places)) ≡ settle I (take j.n old.places)
+  pub paid : 2 * moves + squares I (take j.n new.places) ≤ squares I (take j.n old.places)
 
-pub run-start : {I : Instance} {m c : ℕ} {places loads : List ℕ} (next : ℕ) → Placing I m c places loads → next ≡ mover I (take c places)
-    → Run I m c places places loads 0 next
+pub run-start : {I : Instance} {j : Jobs} {p : Placement} → Placing I j p → Run I j p p 0
 unfolding settle
-run-start {I} {m} {c} {places} next p e = record {
-  placing = p;
+run-start {I} {j} {p} d = record {
+  placing = d;
   rest = refl;
-  due = sym e;
-  left = squares I (take c places) / 2;
+  left = squares I (take j.n p.places) / 2;
   enough = omega arith;
-  same = ap (λ (b : ℕ). settle_by I (squares I (take c places) / 2) (take c places) 0 b) e;
+  same = refl;
   paid = omega arith;
 }
 
@@ -57,35 +54,33 @@ unfolding settle_by
 more I zero x made k h d = absurd (omega arith)
 more I (suc f) x made k h d = (f, omega arith, refl)
 
-module _ {I : Instance} {m c : ℕ} {lengths sets : List ℕ} (r : Reads I m c lengths sets) {old new loads new' loads' : List ℕ} {moves k : ℕ}
-    (run : Run I m c old new loads moves (suc k)) (d : Moved I m c new new' loads' (suc k)) where
-  pub moved-falls : squares I (take c new') + 2 ≤ squares I (take c new)
-  moved-falls =
-      rw d.assignment (move-lowers r.valid run.placing.permitted (suc k) (mover-some I (take c new) k run.due).1)
+module _ {I : Instance} {j : Jobs} (r : Says I j) {old p q : Placement} {moves k : ℕ} (run : Run I j old p moves)
+    (next : mover I (take j.n p.places) ≡ suc k) (d : Moved I j p q (suc k)) where
+  pub moved-falls : squares I (take j.n q.places) + 2 ≤ squares I (take j.n p.places)
+  moved-falls = rw d.assignment (move-lowers r.valid run.placing.permitted (suc k) (mover-some I (take j.n p.places) k next).1)
 
-  pub run_more : (next : ℕ) → next ≡ mover I (take c new') → Run I m c old new' loads' (moves + 1) next
-  run_more next e =
+  pub run_more : Run I j old q (moves + 1)
+  run_more =
       let s = d.assignment in
-      let f : squares I (moved I (take c new) (suc k)) + 2 ≤ squares I (take c new) = rw s at moved-falls in
-      let z = more I run.left (take c new) moves k run.enough f in
+      let f : squares I (moved I (take j.n p.places) (suc k)) + 2 ≤ squares I (take j.n p.places) = rw s at moved-falls in
+      let z = more I run.left (take j.n p.places) moves k run.enough f in
       record {
         placing = d.placing;
         rest = d.rest ∙ run.rest;
-        due = sym e;
         left = z.0;
         enough = rw s z.1;
-        same = rw (add-one moves, e, s) (sym z.2 ∙ run.same);
+        same = rw (add-one moves, s) (sym z.2 ∙ ap (settle_by I run.left (take j.n p.places) moves) (sym next) ∙ run.same);
         paid = omega (arith, run.paid, moved-falls);
       }
 
-pub run_end : {I : Instance} {m c : ℕ} {old new loads : List ℕ} {moves next : ℕ} → Run I m c old new loads moves next → next ≡ 0
-    → SettledTo I m c old new loads moves
-run_end {I} {c = c} {new = new} {moves = moves} k z =
-    let e : settle I (take c _) ≡ record { assignment = take c new; moves = moves }
-    = sym k.same ∙ ap (settle_by I k.left (take c new) moves) z ∙ run-still I k.left (take c new) moves in
+pub run_end : {I : Instance} {j : Jobs} {old p : Placement} {moves : ℕ} → Run I j old p moves → mover I (take j.n p.places) ≡ 0
+    → SettledTo I j old p moves
+run_end {I} {j} {old} {p} {moves} run z =
+    let e : settle I (take j.n old.places) ≡ record { assignment = take j.n p.places; moves = moves }
+    = sym run.same ∙ ap (settle_by I run.left (take j.n p.places) moves) z ∙ run-still I run.left (take j.n p.places) moves in
     record {
       assignment = sym (ap (λ (s : Settled). s.assignment) e);
       count = sym (ap (λ (s : Settled). s.moves) e);
-      placing = k.placing;
-      rest = k.rest;
+      placing = run.placing;
+      rest = run.rest;
     }

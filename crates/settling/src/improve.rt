@@ -1,71 +1,41 @@
-// Who would finish earlier elsewhere. Machines and jobs are numbered from 1, and 0 stands for none.
+// Who would finish earlier elsewhere. Contracts number machines and jobs from 1, with 0 for none; the code has their indices.
 ghost use Rattle.std.specs.Prelude.{◌≡◌, ℕ, suc, ◌<◌, take};
 ghost use Rattle.rules.specs.Fold.{first_to};
 ghost use Rattle.rules.specs.Instance.{Instance};
 ghost use Rattle.rules.specs.Load.{improves};
-ghost use Rattle.arrays.specs.Reads.{Reads};
-ghost use Rattle.settling.specs.Settling.{other, Placing, Known};
+ghost use Rattle.arrays.specs.Found.{found};
+ghost use Rattle.arrays.specs.Jobs.{Says};
+ghost use Rattle.settling.specs.Settling.{other, placed, Placing, Known};
 
 use arrays::sets::is_in;
+use arrays::{Jobs, Placement};
 
 // The machine at index i is another one of the set than `place`.
 pub fn is_other(mask: u32, place: u8, i: usize) -> bool
     requires { i < 24 }
     ensures { result ≡ other mask place (suc i) }
 {
-    if i + 1 == place as usize {
-        return false;
-    }
-    is_in(mask, i)
+    is_in(mask, i) && i + 1 != usize::from(place)
 }
 
 // The job at index b would finish earlier on another machine.
-pub fn improves(
-    loads: &[u32],
-    places: &[u8],
-    minutes: &[u16],
-    masks: &[u32],
-    m: usize,
-    b: usize,
-) -> bool
-    requires { (n : ℕ) × Known m n minutes.now masks.now places.now loads.now × (b < n) }
-    ensures { (I : Instance) (n : ℕ) → Reads I m n minutes.now masks.now → Placing I m n places.now loads.now
-        → b < n → result ≡ improves I (take n places.now) (suc b) }
+pub fn improves(jobs: &Jobs, places: &[u8], loads: &[u32], b: usize) -> bool
+    requires { Known jobs.now (placed places.now loads.now) × (b < jobs.now.n) }
+    ensures { (I : Instance) → Says I jobs.now → Placing I jobs.now (placed places.now loads.now)
+        → result ≡ improves I (take jobs.now.n places.now) (suc b) }
 {
-    let w = minutes[b] as u32;
-    let mask = masks[b];
+    let w = u32::from(jobs.minutes[b]);
+    let mask = jobs.masks[b];
     let place = places[b];
-    let p = place as usize - 1;
-    let top = loads[p];
-    let mut i: usize = 0;
-    while i < m {
-        if loads[i] + w < top && is_other(mask, place, i) {
-            return true;
-        }
-        i += 1;
-    }
-    false
+    let top = loads[usize::from(place) - 1];
+    (0..jobs.m).any(|i| loads[i] + w < top && is_other(mask, place, i))
 }
 
 // The lowest job that would.
-pub fn first_improving(
-    loads: &[u32],
-    places: &[u8],
-    minutes: &[u16],
-    masks: &[u32],
-    n: usize,
-    m: usize,
-) -> usize
-    requires { Known m n minutes.now masks.now places.now loads.now }
-    ensures { (I : Instance) → Reads I m n minutes.now masks.now → Placing I m n places.now loads.now
-        → result ≡ first_to n (λ b. improves I (take n places.now) b) }
+pub fn first_improving(jobs: &Jobs, placement: &Placement) -> Option<usize>
+    requires { Known jobs.now placement.now }
+    ensures { (I : Instance) → Says I jobs.now → Placing I jobs.now placement.now
+        → result ≡ found (first_to jobs.now.n (λ b. improves I (take jobs.now.n placement.now.places) b)) }
 {
-    let mut b: usize = 0;
-    while b < n {
-        if improves(loads, places, minutes, masks, m, b) {
-            return b + 1;
-        }
-        b += 1;
-    }
-    0
+    (0..jobs.n).find(|b| improves(jobs, &placement.places, &placement.loads, *b))
 }

@@ -1,143 +1,85 @@
-// Settling: one move after another until no job would finish earlier elsewhere. Machines and jobs are numbered from 1, and 0
-// stands for none.
-ghost use Rattle.std.specs.Prelude.{◌≡◌, true, ℕ, suc, ◌+◌, ◌-◌, ◌<◌, ◌≤◌, ◌^◌, length, take, get_or, set};
-ghost use Rattle.rules.specs.Fold.{at, lesser, least_to, greater};
+// Settling: one move after another until no job would finish earlier elsewhere. Contracts number machines and jobs from 1, with 0
+// for none; the code has their indices.
+ghost use Rattle.std.specs.Prelude.{◌≡◌, ℕ, suc, ◌+◌, ◌-◌, ◌<◌, ◌≤◌, ◌^◌, take, get_or, set};
+ghost use Rattle.rules.specs.Fold.{at, least_to};
 ghost use Rattle.rules.specs.Instance.{Instance};
 ghost use Rattle.rules.specs.Settle.{mover};
-ghost use Rattle.arrays.specs.Reads.{Reads};
-ghost use Rattle.settling.specs.Settling.{other, Placing, Known, Due, Moved, SettledTo};
+ghost use Rattle.arrays.specs.Found.{found};
+ghost use Rattle.arrays.specs.Jobs.{Says};
+ghost use Rattle.settling.specs.Settling.{other, placed, Placing, Known, shifted, Due, Moved, SettledTo};
 
 use crate::improve::{improves, is_other};
-use arrays::{JOBS, MACHINES};
+use arrays::{Jobs, Placement};
+use std::cmp::Reverse;
 
-// The places and loads after settling, and how many moves it took.
+// Where settling ends, and how many moves it took.
 #[derive(Clone, Copy)]
 pub struct Settled {
-    pub places: [u8; JOBS],
-    pub loads: [u32; MACHINES],
+    pub end: Placement,
     pub moves: u64,
 }
 
-// Of job a (0 for none) and the one at index b, the longer, a on a tie.
-fn longer(minutes: &[u16], a: usize, b: usize) -> usize
-    requires { (a ≤ b) × (b < length minutes.now) }
-    ensures { result ≡ greater (λ k. at minutes.now k) a true (suc b) }
-{
-    if a == 0 || minutes[a - 1] < minutes[b] {
-        return b + 1;
-    }
-    a
-}
-
 // The job that moves next: the longest that would finish earlier elsewhere, the lowest on a tie.
-pub fn mover(
-    loads: &[u32],
-    places: &[u8],
-    minutes: &[u16],
-    masks: &[u32],
-    n: usize,
-    m: usize,
-) -> usize
-    requires { Known m n minutes.now masks.now places.now loads.now }
-    ensures { (I : Instance) → Reads I m n minutes.now masks.now → Placing I m n places.now loads.now
-        → result ≡ mover I (take n places.now) }
+pub fn mover(jobs: &Jobs, places: &[u8], loads: &[u32]) -> Option<usize>
+    requires { Known jobs.now (placed places.now loads.now) }
+    ensures { (I : Instance) → Says I jobs.now → Placing I jobs.now (placed places.now loads.now)
+        → result ≡ found (mover I (take jobs.now.n places.now)) }
 {
-    let mut found: usize = 0;
-    let mut b: usize = 0;
-    while b < n {
-        if improves(loads, places, minutes, masks, m, b) {
-            found = longer(minutes, found, b);
-        }
-        b += 1;
-    }
-    found
+    (0..jobs.n)
+        .filter(|b| improves(jobs, places, loads, *b))
+        .min_by_key(|b| Reverse(jobs.minutes[*b]))
 }
 
-// Of machine a (0 for none) and the one at index i, the one of less load, a on a tie.
-fn lighter(loads: &[u32], a: usize, i: usize) -> usize
-    requires { (a ≤ i) × (i < length loads.now) }
-    ensures { result ≡ lesser (λ k. at loads.now k) a true (suc i) }
+// Of the other machines that the job at index b may run on, the one of least load, the lowest on a tie.
+fn least_other(jobs: &Jobs, placement: &Placement, b: usize) -> Option<usize>
+    requires { b < jobs.now.n }
+    ensures { result ≡ found (least_to jobs.now.m
+        (λ i. other (at jobs.now.masks.now (suc b)) (at placement.now.places (suc b)) i) (λ i. at placement.now.loads i)) }
 {
-    if a == 0 || loads[i] < loads[a - 1] {
-        return i + 1;
-    }
-    a
+    let mask = jobs.masks[b];
+    let place = placement.places[b];
+    (0..jobs.m)
+        .filter(|i| is_other(mask, place, *i))
+        .min_by_key(|i| placement.loads[*i])
 }
 
-// Of the other machines of the set than `place`, the one of least load, the lowest on a tie.
-fn least_other(loads: &[u32], mask: u32, place: u8, m: usize) -> usize
-    requires { (m ≤ 24) × (m ≤ length loads.now) }
-    ensures { result ≡ least_to m (λ i. other mask place i) (λ i. at loads.now i) }
+// The job at index k goes to the machine at index j, and the loads with it.
+fn shift(jobs: &Jobs, placement: &mut Placement, k: usize, j: usize)
+    requires on_a_machine { (k < jobs.now.n) × (0 < get_or placement.old.places k 0) × (get_or placement.old.places k 0 ≤ 24) × (j < 24) }
+    requires loaded { get_or jobs.now.minutes.now k 0 ≤ get_or placement.old.loads (get_or placement.old.places k 0 - 1) 0 }
+    requires room { get_or placement.old.loads j 0 + get_or jobs.now.minutes.now k 0 < 2 ^ 32 }
+    ensures places_after { placement.new.places ≡ set placement.old.places k (j + 1) }
+    ensures loads_after { placement.new.loads
+        ≡ shifted placement.old.loads (get_or placement.old.places k 0 - 1) j (get_or jobs.now.minutes.now k 0) }
 {
-    let mut found: usize = 0;
-    let mut i: usize = 0;
-    while i < m {
-        if is_other(mask, place, i) {
-            found = lighter(loads, found, i);
-        }
-        i += 1;
-    }
-    found
-}
-
-// The job at index k, of w minutes, goes from the machine at index i to the one at index j, and the loads with it.
-fn shift(places: &mut [u8], loads: &mut [u32], k: usize, i: usize, j: usize, w: u32)
-    requires { (k < length places.old) × (i < length loads.old) × (j < length loads.old) × (j < 24) × (w ≤ get_or loads.old i 0) × (get_or loads.old j 0 + w < 2 ^ 32) }
-    ensures places_after { places.new ≡ set places.old k (j + 1) }
-    ensures loads_after { loads.new ≡ set (set loads.old i (get_or loads.old i 0 - w)) j (get_or loads.old j 0 + w) }
-{
-    let left = loads[i] - w;
-    let grown = loads[j] + w;
-    loads[i] = left;
-    loads[j] = grown;
-    places[k] = (j + 1) as u8;
+    let i = usize::from(placement.places[k]) - 1;
+    let w = u32::from(jobs.minutes[k]);
+    placement.loads[i] -= w;
+    placement.loads[j] += w;
+    placement.places[k] = (j + 1) as u8;
 }
 
 // The job at index k, the one that moves next, goes to the least loaded of its other machines.
-fn relocate(
-    places: &mut [u8],
-    loads: &mut [u32],
-    minutes: &[u16],
-    masks: &[u32],
-    m: usize,
-    k: usize,
-)
-    requires { Due m minutes.now masks.now places.old loads.old (suc k) }
-    ensures { (I : Instance) (n : ℕ) → Reads I m n minutes.now masks.now → Placing I m n places.old loads.old
-        → mover I (take n places.old) ≡ suc k → Moved I m n places.old places.new loads.new (suc k) }
+fn relocate(jobs: &Jobs, placement: &mut Placement, k: usize)
+    requires { Due jobs.now placement.old (suc k) }
+    ensures { (I : Instance) → Says I jobs.now → Placing I jobs.now placement.old
+        → mover I (take jobs.now.n placement.old.places) ≡ suc k → Moved I jobs.now placement.old placement.new (suc k) }
 {
-    let place = places[k];
-    let j = least_other(loads, masks[k], place, m) - 1;
-    let i = place as usize - 1;
-    let w = minutes[k] as u32;
-    shift(places, loads, k, i, j, w);
+    let j = least_other(jobs, placement, k).unwrap();
+    shift(jobs, placement, k, j);
 }
 
-// One move after another until no job would finish earlier elsewhere. `loads` are those of `places`.
-pub fn settle(
-    places: [u8; JOBS],
-    loads: [u32; MACHINES],
-    minutes: &[u16],
-    masks: &[u32],
-    n: usize,
-    m: usize,
-) -> Settled
-    requires { Known m n minutes.now masks.now places loads }
-    ensures { (I : Instance) → Reads I m n minutes.now masks.now → Placing I m n places loads
-        → SettledTo I m n places result.places result.loads result.moves }
+// One move after another until no job would finish earlier elsewhere. The loads are those of the places.
+pub fn settle(jobs: &Jobs, placement: Placement) -> Settled
+    requires { Known jobs.now placement }
+    ensures { (I : Instance) → Says I jobs.now → Placing I jobs.now placement
+        → SettledTo I jobs.now placement result.end result.moves }
 {
-    let mut x = places;
-    let mut l = loads;
+    let mut end = placement;
     let mut moves: u64 = 0;
-    let mut next = mover(&l, &x, minutes, masks, n, m);
-    while next != 0 {
-        relocate(&mut x, &mut l, minutes, masks, m, next - 1);
+    while let Some(k) = mover(jobs, &end.places, &end.loads) {
+        relocate(jobs, &mut end, k);
         moves += 1;
-        next = mover(&l, &x, minutes, masks, n, m);
     }
-    Settled {
-        places: x,
-        loads: l,
-        moves: moves,
-    }
+    Settled { end, moves }
 }

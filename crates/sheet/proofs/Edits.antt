@@ -18,19 +18,23 @@ use Rattle.theory.proofs.Logic.{by_test}
 use Rattle.theory.proofs.Sound.{edit-sound}
 use Rattle.theory.proofs.Worklist.{with_row, add_row}
 use Rattle.sheet.specs.declared.Sheet.{Sheet}
-use Rattle.sheet.specs.declared.Edited.{Edited}
+use Rattle.std.specs.Prelude.{Result, Ok, Err}
 use Rattle.sheet.specs.declared.Refusal.{Refusal}
-use Rattle.sheet.specs.declared.Refusal.TheVariants.{Nothing, BadList, BadPlace, BadOrder, NoBatch, SheetFull, HasStarted}
+use Rattle.sheet.specs.declared.Refusal.TheVariants.{BadList, BadPlace, BadOrder, NoBatch, SheetFull, HasStarted}
 use Rattle.sheet.specs.Represent.{padded, sheet_of, batch_at, book_of, Sound}
-use Rattle.sheet.specs.Answers.{edited_as, edit_of}
-use Rattle.sheet.specs.Change.{removed, replaced, requalified, started_at, barred, unfit}
+use Rattle.sheet.specs.Answers.{Edited, left, edited_as, edit_of}
+use Rattle.sheet.specs.Change.{removed, replaced, requalified, started_at, barred, judged_list}
 use Rattle.sheet.proofs.Represent.{sheet-sound}
 use Rattle.sheet.proofs.Change.{remove-law, move-law, requalify-law, start-law}
 use Rattle.sheet.proofs.Scan.{in-range}
-use Rattle.sheet.proofs.SoundArrays.{book-m, book-size, book-at, number-at, is_number, few-instruments, few-batches, narrow-book, mark_of, good-long}
+use Rattle.sheet.proofs.SoundArrays.{book-m, book-size, book-at, number-at, is_number, few-instruments, few-batches, narrow-book, mark_of, good-long, index}
 
-abbrev pub said : Refusal → Sheet → Edited
-said r s = record { refusal = r; sheet = s }
+-- a refusal, which leaves the sheet s; and the sheet s after an edit that is made
+abbrev pub refusal : Refusal → Sheet → Edited
+refusal r s = left (Err r) s
+
+abbrev pub made : Sheet → Edited
+made s = left (Ok tt) s
 
 -- ---- a sound sheet stays sound
 
@@ -51,37 +55,41 @@ row-front l row d = ap (take (length l)) d ∙ take_at l (replicate (24 - length
 pub good_book : (s : Sheet) (l : List ℕ) {t : Bool} → good_list s.m l ≡ t → good_list (book_of s).m l ≡ t
 good_book s l g = ap (λ (m : ℕ). good_list m l) (book-m s) ∙ g
 
--- a batch on m instruments may have the list l
-pub record Fit (m : ℕ) (l : List ℕ) : Type 0 where
+-- a batch on m instruments may have the list l, which stands in the row
+pub record Fit (m : ℕ) (l row : List ℕ) : Type 0 where
   pub good : good_list m l ≡ true
   pub order : ascending l ≡ true
+  pub entered : row ≡ padded 24 l
 
-pub is-fit : (m : ℕ) (l : List ℕ) {r : Refusal} → r ≡ unfit m l → r ≡ Nothing → Fit m l
-is-fit m l q h = from (good_list m l) (ascending l) refl refl (sym h ∙ q)
+pub is-fit : (m : ℕ) (l : List ℕ) {row : List ℕ} → Ok row ≡ judged_list m l → Fit m l row
+is-fit m l {row} q = from (good_list m l) (ascending l) refl refl q
   where
-    from : (t u : Bool) → good_list m l ≡ t → ascending l ≡ u → Nothing ≡ pick t (pick u Nothing BadOrder) BadList → Fit m l
-    from true true a b e = record { good = a; order = b }
-    from true false a b e = absurd (let z : ◌≡◌ {A = ℕ} 0 1 = cc in omega arith)
-    from false u a b e = absurd (let z : ◌≡◌ {A = ℕ} 0 1 = cc in omega arith)
+    from : (t u : Bool) → good_list m l ≡ t → ascending l ≡ u
+        → Ok row ≡ pick t (pick u (Ok (padded 24 l)) (Err BadOrder)) (Err BadList) → Fit m l row
+    from true true a b e = record { good = a; order = b; entered = cc }
+    from true false a b e = cc
+    from false u a b e = cc
 
 -- or is refused for it
-pub unfit-first : (s : Sheet) (l : List ℕ) {r : Refusal} (o : E.Edited) → r ≡ unfit s.m l → (r ≡ Nothing → ⊥)
-    → said r s ≡ edited_as s (if_listed (book_of s).m l o)
-unfit-first s l o q h =
-    ap (λ (x : Refusal). said x s) q
-    ∙ from (good_list s.m l) (ascending l) (λ e. h (q ∙ e))
+pub unfit-first : (s : Sheet) (l : List ℕ) {r : Refusal} (o : E.Edited) → Err r ≡ judged_list s.m l
+    → refusal r s ≡ edited_as s (if_listed (book_of s).m l o)
+unfit-first s l {r} o q =
+    from (good_list s.m l) (ascending l) q
     ∙ ap (λ (m : ℕ). edited_as s (if_listed m l o)) (sym (book-m s))
   where
-    from : (t u : Bool) → (pick t (pick u Nothing BadOrder) BadList ≡ Nothing → ⊥)
-        → said (pick t (pick u Nothing BadOrder) BadList) s ≡ edited_as s (unless t bad_list (unless u bad_order o))
-    from true true f = absurd (f refl)
-    from true false f = refl
-    from false u f = refl
+    from : (t u : Bool) → Err r ≡ pick t (pick u (Ok (padded 24 l)) (Err BadOrder)) (Err BadList)
+        → refusal r s ≡ edited_as s (unless t bad_list (unless u bad_order o))
+    from true true e = cc
+    from true false e = ap (λ (a : Result Unit Refusal). left a s) (let f : r ≡ BadOrder = cc in rw f)
+    from false u e = ap (λ (a : Result Unit Refusal). left a s) (let f : r ≡ BadList = cc in rw f)
 
--- batch number b may be edited
-pub record Free (s : Sheet) (b : ℕ) : Type 0 where
+-- batch number b, at the index i, may be edited
+pub record Free (s : Sheet) (b i : ℕ) : Type 0 where
   pub number : leb 1 b and leb b s.n ≡ true
   pub waits : (batch (book_of s) b).started ≡ false
+  pub at : i ≡ b - 1
+  pub inside : i < s.n
+  pub small : i < 200
 
 module _ (s : Sheet) (v : Sound s) where
   -- ---- a batch that may not be edited
@@ -96,52 +104,49 @@ module _ (s : Sheet) (v : Sound s) where
   mark-is b e t h =
       mark_of s v (b - 1) ∙ ap mark (ap (λ (c : Batch). c.started) (sym (number-at (book_of s) b (in-range b s.n e).0)) ∙ h)
 
-  barred-none : (b : ℕ) → leb 1 b and leb b s.n ≡ false → barred s.started s.n b ≡ NoBatch
+  barred-none : (b : ℕ) → leb 1 b and leb b s.n ≡ false → barred s.started s.n b ≡ Err NoBatch
   barred-none b e = rw e
 
   barred-started : (b : ℕ) → leb 1 b and leb b s.n ≡ true → (batch (book_of s) b).started ≡ true
-      → barred s.started s.n b ≡ HasStarted
+      → barred s.started s.n b ≡ Err HasStarted
   barred-started b e h = rw (e, mark-is b e true h)
 
   barred-free : (b : ℕ) → leb 1 b and leb b s.n ≡ true → (batch (book_of s) b).started ≡ false
-      → barred s.started s.n b ≡ Nothing
+      → barred s.started s.n b ≡ Ok (b - 1)
   barred-free b e h = rw (e, mark-is b e false h)
 
   -- refused for its number, or because it has started, before all else
-  pub barred-first : (b : ℕ) {r : Refusal} (o : E.Edited) → r ≡ barred s.started s.n b → (r ≡ Nothing → ⊥)
-      → said r s ≡ edited_as s (if_waiting (book_of s) b o)
-  barred-first b o q h =
+  pub barred-first : (b : ℕ) {r : Refusal} (o : E.Edited) → Err r ≡ barred s.started s.n b
+      → refusal r s ≡ edited_as s (if_waiting (book_of s) b o)
+  barred-first b {r} o q =
       by_test (leb 1 b and leb b s.n)
       (λ t. by_test (batch (book_of s) b).started
-      (λ u. rw (is_number s b ∙ t, u) (ap (λ (x : Refusal). said x s) (q ∙ barred-started b t u)))
-      (λ u. absurd (h (q ∙ barred-free b t u))))
-      (λ t. rw (is_number s b ∙ t) (ap (λ (x : Refusal). said x s) (q ∙ barred-none b t)))
+      (λ u. let f : r ≡ HasStarted = let h = q ∙ barred-started b t u in cc in rw (is_number s b ∙ t, u, f))
+      (λ u. let h = q ∙ barred-free b t u in cc))
+      (λ t. let f : r ≡ NoBatch = let h = q ∙ barred-none b t in cc in rw (is_number s b ∙ t, f))
 
   -- or not refused yet
-  pub is_free : (b : ℕ) {r : Refusal} → r ≡ barred s.started s.n b → r ≡ Nothing → Free s b
-  is_free b q h =
+  pub is_free : (b : ℕ) {i : ℕ} → Ok i ≡ barred s.started s.n b → Free s b i
+  is_free b {i} q =
       by_test (leb 1 b and leb b s.n)
       (λ t. by_test (batch (book_of s) b).started
-      (λ u. absurd (no_start (sym h ∙ q ∙ barred-started b t u)))
-      (λ u. record { number = t; waits = u }))
-      (λ t. absurd (no_number (sym h ∙ q ∙ barred-none b t)))
-    where
-      no_start : Nothing ≡ HasStarted → ⊥
-      no_start e = let z : ◌≡◌ {A = ℕ} 0 1 = cc in omega arith
+      (λ u. let h = q ∙ barred-started b t u in cc)
+      (λ u.
+      let f : i ≡ b - 1 = let h = q ∙ barred-free b t u in cc in
+      let n = index s v b t in
+      record { number = t; waits = u; at = f; inside = rw f n.1; small = rw f n.2 }))
+      (λ t. let h = q ∙ barred-none b t in cc)
 
-      no_number : Nothing ≡ NoBatch → ⊥
-      no_number e = let z : ◌≡◌ {A = ℕ} 0 1 = cc in omega arith
-
-  free-as : {b : ℕ} (o : E.Edited) → Free s b → edited_as s o ≡ edited_as s (if_waiting (book_of s) b o)
-  free-as {b} o f = rw (is_number s b ∙ f.number, f.waits)
+  free-as : {b i : ℕ} (o : E.Edited) → Free s b i → edited_as s o ≡ edited_as s (if_waiting (book_of s) b o)
+  free-as {b} {i} o f = rw (is_number s b ∙ f.number, f.waits)
 
   -- ---- withdraw
 
-  pub withdraw-none : (b : ℕ) {r : Refusal} → r ≡ barred s.started s.n b → (r ≡ Nothing → ⊥) → said r s ≡ edit_of s (withdraw b)
+  pub withdraw-none : (b : ℕ) {r : Refusal} → Err r ≡ barred s.started s.n b → refusal r s ≡ edit_of s (withdraw b)
   unfolding edit_of edit
-  withdraw-none b q h = barred-first b _ q h
+  withdraw-none b q = barred-first b _ q
 
-  pub withdraw-done : (b : ℕ) (y : Sheet) → Free s b → y ≡ removed s (b - 1) → said Nothing y ≡ edit_of s (withdraw b)
+  pub withdraw-done : (b : ℕ) {i : ℕ} (y : Sheet) → Free s b i → y ≡ removed s i → made y ≡ edit_of s (withdraw b)
   unfolding edit_of edit
   withdraw-done b y f u =
       let r = in-range b s.n f.number in
@@ -149,15 +154,15 @@ module _ (s : Sheet) (v : Sound s) where
       let q : removed s (b - 1) ≡ sheet_of (with_batches (book_of s) (without (book_of s).batches (b - 1))) =
       ap (λ (t : Sheet). removed t (b - 1)) (sym v.arrays)
       ∙ remove-law (book_of s) (b - 1) (omega arith) (omega (arith, few-batches s v)) (narrow-book s v) in
-      ap (said Nothing) (u ∙ q) ∙ free-as _ f
+      ap made (u ∙ ap (removed s) f.at ∙ q) ∙ free-as _ f
 
   -- ---- start
 
-  pub start_none : (b : ℕ) {r : Refusal} → r ≡ barred s.started s.n b → (r ≡ Nothing → ⊥) → said r s ≡ edit_of s (start b)
+  pub start_none : (b : ℕ) {r : Refusal} → Err r ≡ barred s.started s.n b → refusal r s ≡ edit_of s (start b)
   unfolding edit_of edit
-  start_none b q h = barred-first b _ q h
+  start_none b q = barred-first b _ q
 
-  pub start-done : (b : ℕ) → Free s b → said Nothing (started_at s (b - 1)) ≡ edit_of s (start b)
+  pub start-done : (b : ℕ) {i : ℕ} → Free s b i → made (started_at s i) ≡ edit_of s (start b)
   unfolding edit_of edit
   start-done b f =
       let r = in-range b s.n f.number in
@@ -166,50 +171,54 @@ module _ (s : Sheet) (v : Sound s) where
       ap (λ (t : Sheet). started_at t (b - 1)) (sym v.arrays)
       ∙ start-law (book_of s) (b - 1) (omega arith)
       ∙ ap (λ (c : Batch). sheet_of (with_batch (book_of s) b (begun c))) (sym (number-at (book_of s) b r.0)) in
-      ap (said Nothing) q ∙ free-as _ f
+      ap made (ap (started_at s) f.at ∙ q) ∙ free-as _ f
 
   -- ---- move
 
-  pub move-none : (b i : ℕ) {r : Refusal} → r ≡ barred s.started s.n b → (r ≡ Nothing → ⊥) → said r s ≡ edit_of s (move b i)
+  pub move-none : (b p : ℕ) {r : Refusal} → Err r ≡ barred s.started s.n b → refusal r s ≡ edit_of s (move b p)
   unfolding edit_of edit
-  move-none b i q h = barred-first b _ q h
+  move-none b p q = barred-first b _ q
 
-  pub move-strange : (b i : ℕ) → Free s b → mem i (batch_at s (b - 1)).list ≡ false → said BadPlace s ≡ edit_of s (move b i)
-  unfolding edit_of edit
-  move-strange b i f g = rw (← free-as _ f, ap (λ (c : Batch). mem i c.list) (batch-is b f.number) ∙ g)
+  -- its list, by its index
+  lists-as : {b i : ℕ} (p : ℕ) → Free s b i → mem p (batch (book_of s) b).list ≡ mem p (batch_at s i).list
+  lists-as {b} {i} p f =
+      ap (λ (c : Batch). mem p c.list) (batch-is b f.number ∙ ap (batch_at s) (sym f.at))
 
-  pub move-done : (b i : ℕ) → Free s b → mem i (batch_at s (b - 1)).list ≡ true →
-      said Nothing (replaced s (b - 1) i) ≡ edit_of s (move b i)
+  pub move-strange : (b p : ℕ) {i : ℕ} → Free s b i → mem p (batch_at s i).list ≡ false → refusal BadPlace s ≡ edit_of s (move b p)
   unfolding edit_of edit
-  move-done b i f g =
+  move-strange b p f g = rw (← free-as _ f, lists-as p f ∙ g)
+
+  pub move-done : (b p : ℕ) {i : ℕ} → Free s b i → mem p (batch_at s i).list ≡ true → made (replaced s i p) ≡ edit_of s (move b p)
+  unfolding edit_of edit
+  move-done b p f g =
       let r = in-range b s.n f.number in
       let z = book-size s in
-      let q : replaced s (b - 1) i ≡ sheet_of (with_batch (book_of s) b (with_place (batch (book_of s) b) i)) =
-      ap (λ (t : Sheet). replaced t (b - 1) i) (sym v.arrays)
-      ∙ move-law (book_of s) (b - 1) i (omega arith)
-      ∙ ap (λ (c : Batch). sheet_of (with_batch (book_of s) b (with_place c i))) (sym (number-at (book_of s) b r.0)) in
-      rw (← free-as _ f, ap (λ (c : Batch). mem i c.list) (batch-is b f.number) ∙ g) (ap (said Nothing) q)
+      let q : replaced s (b - 1) p ≡ sheet_of (with_batch (book_of s) b (with_place (batch (book_of s) b) p)) =
+      ap (λ (t : Sheet). replaced t (b - 1) p) (sym v.arrays)
+      ∙ move-law (book_of s) (b - 1) p (omega arith)
+      ∙ ap (λ (c : Batch). sheet_of (with_batch (book_of s) b (with_place c p))) (sym (number-at (book_of s) b r.0)) in
+      rw (← free-as _ f, lists-as p f ∙ g) (ap made (ap (λ (j : ℕ). replaced s j p) f.at ∙ q))
 
   -- ---- requalify
 
-  pub requalify-none : (b : ℕ) (l : List ℕ) {r : Refusal} → r ≡ barred s.started s.n b → (r ≡ Nothing → ⊥)
-      → said r s ≡ edit_of s (requalify b l)
+  pub requalify-none : (b : ℕ) (l : List ℕ) {r : Refusal} → Err r ≡ barred s.started s.n b → refusal r s ≡ edit_of s (requalify b l)
   unfolding edit_of edit
-  requalify-none b l q h = barred-first b _ q h
+  requalify-none b l q = barred-first b _ q
 
-  pub requalify-unfit : (b : ℕ) (l : List ℕ) {r : Refusal} → Free s b → r ≡ unfit s.m l → (r ≡ Nothing → ⊥)
-      → said r s ≡ edit_of s (requalify b l)
+  pub requalify-unfit : (b : ℕ) (l : List ℕ) {i : ℕ} {r : Refusal} → Free s b i → Err r ≡ judged_list s.m l
+      → refusal r s ≡ edit_of s (requalify b l)
   unfolding edit_of edit
-  requalify-unfit b l f q h = unfit-first s l _ q h ∙ free-as _ f
+  requalify-unfit b l f q = unfit-first s l _ q ∙ free-as _ f
 
-  pub requalify-done : (b : ℕ) (l : List ℕ) (row : List ℕ) (y : Sheet) → Free s b → Fit s.m l → row ≡ padded 24 l →
-      y ≡ requalified s (b - 1) (kept (get_or s.places (b - 1) 0) (take (length l) row)) (length l) row →
-      said Nothing y ≡ edit_of s (requalify b l)
+  pub requalify-done : (b : ℕ) (l : List ℕ) {i : ℕ} {row : List ℕ} (y : Sheet) → Free s b i → Fit s.m l row →
+      y ≡ requalified s i (kept (get_or s.places i 0) (take (length l) row)) (length l) row →
+      made y ≡ edit_of s (requalify b l)
   unfolding edit_of edit
-  requalify-done b l row y f g d u =
+  requalify-done b l {i} {row} y f g u =
       let c = batch (book_of s) b in
       let r = in-range b s.n f.number in
       let z = book-size s in
+      let d = g.entered in
       let w = row-front l row d in
       let p : kept (get_or s.places (b - 1) 0) (take (length l) row) ≡ kept c.place l =
       ap (kept (get_or s.places (b - 1) 0)) w ∙ ap (λ (x : Batch). kept x.place l) (sym (batch-is b f.number)) in
@@ -221,8 +230,10 @@ module _ (s : Sheet) (v : Sound s) where
       ∙ ap (λ (x : Batch). sheet_of (with_batch (book_of s) b (with_place (with_list x l) (kept c.place l))))
       (sym (number-at (book_of s) b r.0)) in
       rw (← free-as _ f, good_book s l g.good, g.order)
-      (ap (said Nothing)
-      (u ∙ ap (λ (j : ℕ). requalified s (b - 1) j (length l) row) p
+      (ap made
+      (u
+      ∙ ap (λ (j : ℕ). requalified s j (kept (get_or s.places j 0) (take (length l) row)) (length l) row) f.at
+      ∙ ap (λ (j : ℕ). requalified s (b - 1) j (length l) row) p
       ∙ ap (λ (j : List ℕ). requalified s (b - 1) (kept c.place l) (length l) j) d
       ∙ q))
 
@@ -231,7 +242,7 @@ module _ (s : Sheet) (v : Sound s) where
   room : s.n < 200 → ltb (size (book_of s)) 200 ≡ true
   room h = let z = book-size s in lt-ltb (size (book_of s)) 200 (omega arith)
 
-  pub add-full : (t : ℕ) (l : List ℕ) → 200 ≤ s.n → said SheetFull s ≡ edit_of s (add t l)
+  pub add-full : (t : ℕ) (l : List ℕ) → 200 ≤ s.n → refusal SheetFull s ≡ edit_of s (add t l)
   unfolding edit_of edit
   add-full t l h = let z = book-size s in rw (le-ltb (size (book_of s)) 200 (omega arith))
 

@@ -5,7 +5,6 @@ pub mod Scan
 pub mod Shift
 pub mod Change
 pub mod SoundArrays
-pub mod Refusals
 pub mod Edits
 pub mod Place
 pub mod Rows

@@ -6,7 +6,7 @@ use native.Mathlib.Omega.{arith}
 use lib.ListN.{length, set, drop, replicate, length-append, length-replicate, replicate-append-replicate}
 use lib.Seq.{take_all, take_at, drop_at, set_at, paste}
 use Rattle.sheet.specs.Represent.{padded}
-use Rattle.sheet.specs.Change.{cut}
+use Rattle.sheet.specs.Change.{cut_down, cut}
 
 -- ---- reading
 
@@ -77,7 +77,7 @@ paste-replace w p q r s at n a b c =
 
 -- q taken out
 cut_at : (p q r : List ℕ) (at n : ℕ) → length p ≡ at → length q ≡ n → cut at n (p ++ (q ++ r)) ≡ p ++ (r ++ replicate n 0)
-unfolding cut
+unfolding cut_down
 cut_at p q r at n a b =
     let d : drop (at + n) (p ++ (q ++ r)) ≡ r =
     ap (drop (at + n)) (sym (append_assoc p q r)) ∙ drop_at (p ++ q) r (at + n) (omega (arith, length-append p q)) in

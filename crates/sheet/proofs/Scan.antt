@@ -1,133 +1,117 @@
--- A list gone through from the front: what a test of the rest says, an entry at a time.
-use Prim.Native.Nat.{ℕ, zero, suc, ◌+◌, ◌≤◌, ◌<◌}
+-- Tests of lists, by the library's words and an entry at a time, and a list copied into a row.
+use Prim.Native.Nat.{ℕ, zero, suc, ◌+◌, ◌-◌, ◌≤◌, ◌<◌}
 use mathlib.Core.Path.{◌≡◌, refl, sym, ap, ◌∙◌}
-use mathlib.Core.Bool.{Bool, true, false, not}
-use mathlib.Core.List.{List, ◌∷◌}
+use mathlib.Core.Bool.{Bool, true, false, not, ◌&&◌, ◌||◌}
+use Rattle.std.specs.Bool.{MatchBool}
+use Rattle.std.specs.List.{list_any, list_all}
+use Rattle.std.specs.List.Sorted.{IsNonDecreasing}
+use mathlib.Core.List.{List, [], ◌∷◌}
 use native.Mathlib.Omega.{arith}
 use native.Mathlib.Numerals.{add-one}
-use lib.ListN.{length, get_or, set, take, drop, replicate, drop_of_length-le}
-use lib.Seq.{take-suc, take_all, drop-cons, take-add, drop_at, length-take-le, get_or-take}
-use lib.Dec.{leb}
-use borrow.Author.Tests.{eq-eqb, ne_eqb, leb-true, le-leb, lt-leb, not-true, not-false}
+use lib.ListN.{length-drop, length, get_or, set, take, drop, replicate, drop_of_length-le}
+use lib.Seq.{take-suc, take_all, drop-cons, length-take-le}
+use lib.Dec.{leb, eqb}
+use borrow.Author.Tests.{ne_eqb, leb-true, le-leb, lt-leb, not-true, not-false}
 use Rattle.rules.specs.Fold.{◌and◌, ◌or◌, mem, every}
 use Rattle.rules.specs.Sheet.{is_instrument, distinct, good_list, ascending_from, ascending}
 use Rattle.theory.proofs.Logic.{by_test, and_left, and_right, and-mk, and-no-left, and-no-right}
 use Rattle.sheet.specs.Represent.{padded}
 use Rattle.sheet.proofs.Padded.{set-append}
 
--- the entries from i on name x as those from from on do
-pub record Seeks (x : ℕ) (l : List ℕ) (from i : ℕ) : Type 0 where
-  pub same : mem x (drop i l) ≡ mem x (drop from l)
+-- the library's words for the rules' tests
+or-is : (a b : Bool) → a or b ≡ (a || b)
+unfolding ◌or◌
+or-is true b = refl
+or-is false b = refl
 
--- they pass as those do
-pub record Passes (p : ℕ → Bool) (l : List ℕ) (from i : ℕ) : Type 0 where
-  pub same : every p (drop i l) ≡ every p (drop from l)
+and-is : (a b : Bool) → a and b ≡ (a && b)
+unfolding ◌and◌
+and-is true b = refl
+and-is false b = refl
 
--- they name no number twice as those do
-pub record DistinctSo (l : List ℕ) (from i : ℕ) : Type 0 where
-  pub same : distinct (drop i l) ≡ distinct (drop from l)
+pub mem-any : (x : ℕ) (l : List ℕ) → mem x l ≡ list_any (λ y. eqb y x) l
+unfolding mem
+mem-any x [] = refl
+mem-any x (y ∷ l) = or-is (eqb y x) (mem x l) ∙ ap (λ (t : Bool). eqb y x || t) (mem-any x l)
 
--- both, for a list on m instruments
-pub record GoodSo (m : ℕ) (l : List ℕ) (i : ℕ) : Type 0 where
-  pub ranged : Passes (is_instrument m) l 0 i
-  pub apart : DistinctSo l 0 i
+-- a list of smaller numbers does not name x
+pub too-large : (x k : ℕ) → k ≤ x → (l : List ℕ) → ((i : ℕ) → i < length l → get_or l i 0 < k) → mem x l ≡ false
+unfolding mem ◌or◌
+too-large x k h [] s = refl
+too-large x k h (y ∷ l) s =
+    rw (ne_eqb y x (λ e. let a : y < k = s 0 (omega arith) in omega arith)) (too-large x k h l (λ i u. s (suc i) (omega arith)))
+
+pub every-all : (p : ℕ → Bool) (l : List ℕ) → every p l ≡ list_all p l
+unfolding every
+every-all p [] = refl
+every-all p (x ∷ l) = and-is (p x) (every p l) ∙ ap (λ (t : Bool). p x && t) (every-all p l)
+
+-- ---- a list gone through: what is left passes, and names no number twice, where the whole does
 
 rest : (l : List ℕ) (i : ℕ) → i < length l → drop i l ≡ get_or l i 0 ∷ drop (i + 1) l
 rest l i h = rw (add-one, drop-cons l i 0)
 
-module _ {x : ℕ} {l : List ℕ} {from i : ℕ} (s : Seeks x l from i) where
-  pub mem-hit : i < length l → get_or l i 0 ≡ x → true ≡ mem x (drop from l)
-  unfolding mem ◌or◌
-  mem-hit h e = sym (sym s.same ∙ ap (mem x) (rest l i h) ∙ rw (eq-eqb (get_or l i 0) x e))
+-- whether the entries behind i name its number, of the slice from i + 1 on
+pub named-behind : (l : List ℕ) (i : ℕ) {r : Bool} → r ≡ list_any (λ y. eqb y (get_or l i 0)) (take (length l - (i + 1)) (drop (i + 1) l))
+    → mem (get_or l i 0) (drop (i + 1) l) ≡ r
+named-behind l i e =
+    let t : take (length l - (i + 1)) (drop (i + 1) l) ≡ drop (i + 1) l =
+    take_all (length l - (i + 1)) (drop (i + 1) l) (omega (arith, length-drop (i + 1) l)) in
+    mem-any (get_or l i 0) (drop (i + 1) l) ∙ sym (e ∙ ap (list_any (λ y. eqb y (get_or l i 0))) t)
 
-  pub mem-miss : i < length l → (get_or l i 0 ≡ x → ⊥) → Seeks x l from (i + 1)
-  unfolding mem ◌or◌
-  mem-miss h e = record { same = sym (ap (mem x) (rest l i h) ∙ rw (ne_eqb (get_or l i 0) x e)) ∙ s.same }
+-- what is left from i on is good for m instruments where the whole is
+pub record GoodSo (m : ℕ) (l : List ℕ) (i : ℕ) : Type 0 where
+  pub ranged : every (is_instrument m) (drop i l) ≡ every (is_instrument m) l
+  pub apart : distinct (drop i l) ≡ distinct l
 
-  pub mem-end : length l ≤ i → false ≡ mem x (drop from l)
-  unfolding mem
-  mem-end h = sym (sym s.same ∙ ap (mem x) (drop_of_length-le l h))
+pub good-start : {m : ℕ} {l : List ℕ} → GoodSo m l 0
+good-start = record { ranged = refl; apart = refl }
 
-module _ {p : ℕ → Bool} {l : List ℕ} {from i : ℕ} (s : Passes p l from i) where
-  pub every-fail : i < length l → p (get_or l i 0) ≡ false → false ≡ every p (drop from l)
-  unfolding every ◌and◌
-  every-fail h e = sym (sym s.same ∙ ap (every p) (rest l i h) ∙ rw e)
+module _ {m : ℕ} {l : List ℕ} {i : ℕ} (s : GoodSo m l i) (h : i < length l) where
+  pub strange : is_instrument m (get_or l i 0) ≡ false → false ≡ good_list m l
+  unfolding good_list every
+  strange e =
+      let f : every (is_instrument m) l ≡ false = sym s.ranged ∙ ap (every (is_instrument m)) (rest l i h) ∙ and-no-left _ _ e in
+      sym (and-no-right _ _ (and-no-right _ _ (and-no-left _ _ f)))
 
-  pub every-pass : i < length l → p (get_or l i 0) ≡ true → Passes p l from (i + 1)
-  unfolding every ◌and◌
-  every-pass h e = record { same = sym (ap (every p) (rest l i h) ∙ rw e) ∙ s.same }
+  pub twice : mem (get_or l i 0) (drop (i + 1) l) ≡ true → false ≡ good_list m l
+  unfolding good_list distinct
+  twice e =
+      let f : distinct l ≡ false = sym s.apart ∙ ap distinct (rest l i h) ∙ and-no-left _ _ (rw e) in
+      sym (and-no-right _ _ (and-no-right _ _ (and-no-right _ _ f)))
 
-  pub every-end : length l ≤ i → true ≡ every p (drop from l)
-  unfolding every
-  every-end h = sym (sym s.same ∙ ap (every p) (drop_of_length-le l h))
-
-module _ {l : List ℕ} {from i : ℕ} (s : DistinctSo l from i) where
-  pub twice : i < length l → mem (get_or l i 0) (drop (i + 1) l) ≡ true → false ≡ distinct (drop from l)
-  unfolding distinct ◌and◌
-  twice h e = sym (sym s.same ∙ ap distinct (rest l i h) ∙ rw e)
-
-  pub once : i < length l → mem (get_or l i 0) (drop (i + 1) l) ≡ false → DistinctSo l from (i + 1)
-  unfolding distinct ◌and◌
-  once h e = record { same = sym (ap distinct (rest l i h) ∙ rw e) ∙ s.same }
-
-  pub distinct-end : length l ≤ i → true ≡ distinct (drop from l)
-  unfolding distinct
-  distinct-end h = sym (sym s.same ∙ ap distinct (drop_of_length-le l h))
+  pub good-next : is_instrument m (get_or l i 0) ≡ true → mem (get_or l i 0) (drop (i + 1) l) ≡ false → GoodSo m l (i + 1)
+  unfolding every distinct ◌and◌
+  good-next a e = record {
+    ranged = sym (ap (every (is_instrument m)) (rest l i h) ∙ rw a) ∙ s.ranged;
+    apart = sym (ap distinct (rest l i h) ∙ rw e) ∙ s.apart;
+  }
 
 -- ---- the order of a list
 
--- before is the entry before i, 0 at the front, and the entries from i on ascend from there as the whole list ascends
-pub record AscendsSo (l : List ℕ) (before i : ℕ) : Type 0 where
-  pub same : ascending_from before (drop i l) ≡ ascending l
+rising : (p : ℕ) (l : List ℕ) → ((k : ℕ) → k < length l → get_or (p ∷ l) k 0 ≤ get_or l k 0) → ascending_from p l ≡ true
+unfolding ascending_from
+rising p [] h = refl
+rising p (x ∷ l) h = and-mk _ _ (le-leb p x (h 0 (omega arith))) (rising x l (λ k g. h (suc k) (omega arith)))
 
-pub ascends-start : {l : List ℕ} → AscendsSo l 0 0
-unfolding ascending
-ascends-start = record { same = refl }
+falling : (p : ℕ) (l : List ℕ) (k : ℕ) → k < length l → get_or l k 0 < get_or (p ∷ l) k 0 → ascending_from p l ≡ false
+unfolding ascending_from
+falling p [] k g h = absurd (omega arith)
+falling p (x ∷ l) zero g h = and-no-left _ _ (lt-leb p x h)
+falling p (x ∷ l) (suc k) g h = and-no-right (leb p x) _ (falling x l k (omega arith) h)
 
-module _ {l : List ℕ} {before i : ℕ} (s : AscendsSo l before i) where
-  pub falls : i < length l → get_or l i 0 < before → false ≡ ascending l
-  unfolding ascending_from ◌and◌
-  falls h e = sym (sym s.same ∙ ap (ascending_from before) (rest l i h) ∙ rw (lt-leb before (get_or l i 0) e))
-
-  pub rises : i < length l → before ≤ get_or l i 0 → AscendsSo l (get_or l i 0) (i + 1)
-  unfolding ascending_from ◌and◌
-  rises h e = record { same = sym (ap (ascending_from before) (rest l i h) ∙ rw (le-leb before (get_or l i 0) e)) ∙ s.same }
-
-  pub ascends-end : length l ≤ i → true ≡ ascending l
-  unfolding ascending_from
-  ascends-end h = sym (sym s.same ∙ ap (ascending_from before) (drop_of_length-le l h))
-
--- ---- a part of a list
-
--- the part's entries from i on name x as the whole part does
-pub record NamedIn (x : ℕ) (l : List ℕ) (from count i : ℕ) : Type 0 where
-  pub seeks : Seeks x (take (from + count) l) from i
-  pub few : i ≤ from + count
-
-pub part-start : {x : ℕ} {l : List ℕ} {from count : ℕ} → NamedIn x l from count from
-part-start = record { seeks = record { same = refl }; few = omega arith }
-
-module _ {x : ℕ} {l : List ℕ} {from count i : ℕ} (p : NamedIn x l from count i) (f : from + count ≤ length l) where
-  long : length (take (from + count) l) ≡ from + count
-  long = length-take-le (from + count) l f
-
-  part : drop from (take (from + count) l) ≡ take count (drop from l)
-  part =
-      ap (drop from) (take-add from count l)
-      ∙ drop_at (take from l) (take count (drop from l)) from (length-take-le from l (omega arith))
-
-  pub part-hit : i < from + count → get_or l i 0 ≡ x → true ≡ mem x (take count (drop from l))
-  part-hit h e =
-      mem-hit p.seeks (omega (arith, long)) (get_or-take (from + count) l i 0 h ∙ e) ∙ ap (mem x) part
-
-  pub part-miss : i < from + count → (get_or l i 0 ≡ x → ⊥) → NamedIn x l from count (i + 1)
-  part-miss h e = record {
-    seeks = mem-miss p.seeks (omega (arith, long)) (λ g. e (sym (get_or-take (from + count) l i 0 h) ∙ g));
-    few = omega arith;
-  }
-
-  pub part_end : from + count ≤ i → false ≡ mem x (take count (drop from l))
-  part_end h = mem-end p.seeks (omega (arith, long)) ∙ ap (mem x) part
+-- what the library's test of order says
+pub sorted-is : (l : List ℕ) (r : Bool)
+    → MatchBool r (IsNonDecreasing l) ((k : ℕ) × (k + 1 < length l) × ((d : ℕ) → get_or l (k + 1) d < get_or l k d)) → r ≡ ascending l
+unfolding ascending ascending_from
+sorted-is [] true h = refl
+sorted-is [] false h = absurd (omega (arith, h.1))
+sorted-is (x ∷ l) true h =
+    sym (and-mk _ _ (le-leb 0 x (omega arith))
+    (rising x l (λ k g. let e : k + 1 ≡ suc k = omega arith in rw e at (h k (k + 1) 0 (omega arith) (omega arith)))))
+sorted-is (x ∷ l) false h =
+    let e : h.0 + 1 ≡ suc h.0 = omega arith in
+    sym (and-no-right (leb 0 x) _ (falling x l h.0 (omega (arith, h.1)) (rw e at (h.2 0))))
 
 -- ---- a list copied into a row
 
@@ -176,15 +160,9 @@ module _ (m : ℕ) (l : List ℕ) where
   unfolding good_list ◌and◌
   list-size e = by_test (leb 1 (length l)) (λ t. rw (t, rw t at e)) (λ t. rw t)
 
-  pub list-strange : every (is_instrument m) l ≡ false → false ≡ good_list m l
-  unfolding good_list
-  list-strange e = sym (and-no-right _ _ (and-no-right _ _ (and-no-left _ _ e)))
-
-  pub list-twice : distinct l ≡ false → false ≡ good_list m l
-  unfolding good_list
-  list-twice e = sym (and-no-right _ _ (and-no-right _ _ (and-no-right _ _ e)))
-
-  pub list-good : leb 1 (length l) and leb (length l) m ≡ true → every (is_instrument m) l ≡ true → distinct l ≡ true → true ≡ good_list m l
-  unfolding good_list
-  list-good e p d =
-      sym (and-mk _ _ (and_left _ _ e) (and-mk _ _ (and_right (leb 1 (length l)) _ e) (and-mk _ _ p d)))
+  pub list-good : leb 1 (length l) and leb (length l) m ≡ true → {i : ℕ} → length l ≤ i → GoodSo m l i → true ≡ good_list m l
+  unfolding good_list every distinct
+  list-good e h s =
+      let z = drop_of_length-le l h in
+      sym (and-mk _ _ (and_left _ _ e) (and-mk _ _ (and_right (leb 1 (length l)) _ e)
+      (and-mk _ _ (sym s.ranged ∙ ap (every (is_instrument m)) z) (sym s.apart ∙ ap distinct z))))

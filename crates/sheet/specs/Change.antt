@@ -1,18 +1,21 @@
 -- What an edit does to the arrays of a sheet: a batch taken out, a place entered, a list and a place entered, a batch started; which batches
 -- it may not touch, and which lists it may not enter.
-use Rattle.std.specs.Prelude.{ℕ, ◌+◌, ◌-◌, ◌*◌, List, ◌++◌, get_or, set, take, drop, replicate, leb, eqb}
+use Rattle.std.specs.Prelude.{ℕ, Result, Ok, Err, ◌+◌, ◌-◌, ◌*◌, List, ◌++◌, get_or, set, take, drop, replicate, leb, eqb}
 use Rattle.std.proofs.Math.Seq.{paste}
 use Rattle.rules.specs.Fold.{◌and◌, pick}
 use Rattle.rules.specs.Sheet.{good_list, ascending}
 use Rattle.sheet.specs.declared.Sheet.{Sheet}
 use Rattle.sheet.specs.declared.Refusal.{Refusal}
-use Rattle.sheet.specs.declared.Refusal.TheVariants.{Nothing, BadList, NoBatch, HasStarted, BadOrder}
-use Rattle.sheet.specs.declared.edit.ListRow.{ListRow}
+use Rattle.sheet.specs.declared.Refusal.TheVariants.{BadList, NoBatch, HasStarted, BadOrder}
 use Rattle.sheet.specs.Represent.{padded}
 
--- xs without its by entries from at on, and as many 0 at its end
-unfoldable pub cut : ℕ → ℕ → List ℕ → List ℕ
-cut at by xs = take at xs ++ (drop (at + by) xs ++ replicate by 0)
+-- xs without its by entries from at on, and as many d at its end
+unfoldable pub cut_down : {X : Type 0} → X → ℕ → ℕ → List X → List X
+cut_down d at by xs = take at xs ++ (drop (at + by) xs ++ replicate by d)
+
+-- numbers, with 0 at the end
+abbrev pub cut : ℕ → ℕ → List ℕ → List ℕ
+cut = cut_down 0
 
 -- the batch at the index i taken out, the later ones replaced down
 abbrev pub removed : Sheet → ℕ → Sheet
@@ -66,15 +69,11 @@ started_at s i = record {
   lists = s.lists;
 }
 
--- why batch number b of n, those with an entry other than 0 having started, may not be edited
-abbrev pub barred : List ℕ → ℕ → ℕ → Refusal
+-- the index of batch number b of n, those with an entry other than 0 having started, or why it may not be edited
+abbrev pub barred : List ℕ → ℕ → ℕ → Result ℕ Refusal
 barred started n b =
-    pick (leb 1 b and leb b n) (pick (eqb (get_or started (b - 1) 0) 0) Nothing HasStarted) NoBatch
+    pick (leb 1 b and leb b n) (pick (eqb (get_or started (b - 1) 0) 0) (Ok (b - 1)) (Err HasStarted)) (Err NoBatch)
 
--- why a batch on m instruments may not have the list l
-abbrev pub unfit : ℕ → List ℕ → Refusal
-unfit m l = pick (good_list m l) (pick (ascending l) Nothing BadOrder) BadList
-
--- that, and the row of a list for a batch
-abbrev pub judged_list : ℕ → List ℕ → ListRow
-judged_list m l = record { refusal = unfit m l; row = pick (good_list m l) (padded 24 l) (replicate 24 0) }
+-- the row of the list l of a batch on m instruments, or why it may not have it
+abbrev pub judged_list : ℕ → List ℕ → Result (List ℕ) Refusal
+judged_list m l = pick (good_list m l) (pick (ascending l) (Ok (padded 24 l)) (Err BadOrder)) (Err BadList)

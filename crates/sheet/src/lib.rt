@@ -1,4 +1,4 @@
-// The sheet: m instruments with their calibrations, and up to 200 batches, and its edits. A sheet goes in by value and comes back.
+// The sheet: m instruments with their calibrations, and up to 200 batches, and its edits.
 #![tactic(auto)]
 
 ghost use Rattle.std.specs.Prelude.{◌≡◌, not, ℕ, ◌+◌, ◌<◌, ◌≤◌, leb, eqb, length, get_or, take, drop};
@@ -6,17 +6,16 @@ ghost use Rattle.std.proofs.Math.Seq.{paste};
 ghost use Rattle.rules.specs.Fold.{◌and◌, mem, pick};
 ghost use Rattle.rules.specs.Sheet.{ascending};
 ghost use Rattle.rules.specs.Edit.{kept};
-ghost use Rattle.sheet.specs.Represent.{padded, appended, held, blank};
-ghost use Rattle.sheet.specs.Answers.{number_of, unread};
+ghost use Rattle.sheet.specs.Represent.{padded, appended, held, empty, blank};
+ghost use Rattle.sheet.specs.Answers.{number_of, fault};
 
 pub mod bare;
 pub mod edit;
 pub mod view;
 
-// The documents' refusals, by name; Nothing is none.
-#[derive(Clone, Copy)]
+// The documents' refusals, by name.
+#[derive(Clone, Copy, Debug, PartialEq, Eq)]
 pub enum Refusal {
-    Nothing,
     Malformed,
     BadSize,
     BadLength,
@@ -30,27 +29,46 @@ pub enum Refusal {
     HasStarted,
     BadWorklist,
     BadOrder,
+    BadJournal,
 }
 
-// A refusal's number; 0 for none.
-pub fn code(refusal: Refusal) -> u32
-    ensures { result ≡ number_of refusal }
-{
-    match refusal {
-        Refusal::Nothing => 0,
-        Refusal::Malformed => 1,
-        Refusal::BadSize => 2,
-        Refusal::BadLength => 3,
-        Refusal::BadList => 4,
-        Refusal::BadPlace => 5,
-        Refusal::NoBatch => 6,
-        Refusal::SheetFull => 7,
-        Refusal::LevelAbove => 8,
-        Refusal::BufferShort => 9,
-        Refusal::BadCalibration => 10,
-        Refusal::HasStarted => 11,
-        Refusal::BadWorklist => 12,
-        Refusal::BadOrder => 13,
+// A refusal's number.
+impl From<Refusal> for u32 {
+    ghost from_gives = { λ refusal number. number ≡ number_of refusal };
+
+    fn from(refusal: Refusal) -> u32 {
+        match refusal {
+            Refusal::Malformed => 1,
+            Refusal::BadSize => 2,
+            Refusal::BadLength => 3,
+            Refusal::BadList => 4,
+            Refusal::BadPlace => 5,
+            Refusal::NoBatch => 6,
+            Refusal::SheetFull => 7,
+            Refusal::LevelAbove => 8,
+            Refusal::BufferShort => 9,
+            Refusal::BadCalibration => 10,
+            Refusal::HasStarted => 11,
+            Refusal::BadWorklist => 12,
+            Refusal::BadOrder => 13,
+            Refusal::BadJournal => 19,
+        }
+    }
+}
+
+// A refusal of a text, with its line; 0 where it is none of the text's.
+#[derive(Clone, Copy, Debug, PartialEq, Eq)]
+pub struct Fault {
+    pub refusal: Refusal,
+    pub line: usize,
+}
+
+// One of the host's has no line.
+impl From<Refusal> for Fault {
+    ghost from_gives = { λ refusal given. given ≡ fault refusal 0 };
+
+    fn from(refusal: Refusal) -> Fault {
+        Fault { refusal, line: 0 }
     }
 }
 
@@ -68,21 +86,6 @@ pub struct Sheet {
     lists: [u8; 4800],
 }
 
-// What an edit answers: its refusal, or Nothing, and the sheet, which a refusal leaves as it was.
-#[derive(Clone, Copy)]
-pub struct Edited {
-    pub refusal: Refusal,
-    pub sheet: Sheet,
-}
-
-// What reading answers: the refusal and its line, and the blank value, or Nothing, 0 and the sheet.
-#[derive(Clone, Copy)]
-pub struct Reading {
-    pub refusal: Refusal,
-    pub line: usize,
-    pub sheet: Sheet,
-}
-
 impl Sheet {
     pub const INSTRUMENTS: usize = 24;
 
@@ -96,16 +99,23 @@ impl Sheet {
     pub fn new() -> Self
         ensures { result ≡ blank }
     {
-        Self {
-            m: 0,
-            n: 0,
-            calibrations: [0u8; 24],
-            minutes: [0u16; 200],
-            places: [0u8; 200],
-            started: [0u8; 200],
-            counts: [0u8; 200],
-            lists: [0u8; 4800],
-        }
+        Self::empty(0, [0u8; 24])
+    }
+
+    // That of m instruments with these calibrations, and no batch.
+    pub fn empty(m: usize, calibrations: [u8; 24]) -> Self
+        ensures { result ≡ empty m calibrations }
+    {
+        Self::of_arrays(
+            m,
+            0,
+            calibrations,
+            [0; 200],
+            [0; 200],
+            [0; 200],
+            [0; 200],
+            [0; 4800],
+        )
     }
 
     // The sheet that these arrays make.
@@ -134,32 +144,22 @@ impl Sheet {
     }
 
     // One batch more, the last; its list stands at the front of row.
-    fn appended(mut self, minutes: u16, place: u8, started: u8, count: u8, row: [u8; 24]) -> Sheet
-        requires { self.n < 200 }
-        ensures { result ≡ appended self minutes place started count row }
+    pub fn append(&mut self, minutes: u16, place: u8, started: u8, count: u8, row: [u8; 24])
+        requires { self.old.n < 200 }
+        ensures { self.new ≡ appended self.old minutes place started count row }
     {
         let n = self.n;
         self.minutes[n] = minutes;
         self.places[n] = place;
         self.started[n] = started;
         self.counts[n] = count;
-        let mut lists = self.lists;
-        enter_part(&mut lists, n * Sheet::INSTRUMENTS, &row, Sheet::INSTRUMENTS);
-        self.lists = lists;
+        enter_part(
+            &mut self.lists,
+            n * Sheet::INSTRUMENTS,
+            &row,
+            Sheet::INSTRUMENTS,
+        );
         self.n = n + 1;
-        self
-    }
-}
-
-// A sheet that is refused at a line: the blank value stands in the sheet's place.
-pub fn refused_at(refusal: Refusal, line: usize) -> Reading
-    ensures { result ≡ unread refusal line }
-{
-    let sheet = Sheet::new();
-    Reading {
-        refusal,
-        line,
-        sheet,
     }
 }
 
@@ -169,11 +169,7 @@ pub fn enter_part(a: &mut [u8], at: usize, part: &[u8], count: usize)
     requires fact_2 { count ≤ length part.now }
     ensures { a.new ≡ paste a.old at part.now count }
 {
-    let mut j = 0;
-    while j < count {
-        a[at + j] = part[j];
-        j += 1;
-    }
+    a[at..at + count].copy_from_slice(&part[..count]);
 }
 
 // The count entries from from on name x.
@@ -181,15 +177,10 @@ pub fn listed(lists: &[u8], from: usize, count: usize, x: u32) -> bool
     requires { from + count ≤ length lists.now }
     ensures { result ≡ mem x (take count (drop from lists.now)) }
 {
-    let end = from + count;
-    let mut i = from;
-    while i < end {
-        if lists[i] as u32 == x {
-            return true;
-        }
-        i += 1;
+    match u8::try_from(x) {
+        Ok(x) => lists[from..from + count].contains(&x),
+        Err(_) => false,
     }
-    false
 }
 
 // None of the first count entries is smaller than the one before it.
@@ -197,16 +188,7 @@ pub fn ascends(list: &[u8], count: usize) -> bool
     requires { count ≤ length list.now }
     ensures { result ≡ ascending (take count list.now) }
 {
-    let mut before = 0;
-    let mut i = 0;
-    while i < count {
-        if list[i] < before {
-            return false;
-        }
-        before = list[i];
-        i += 1;
-    }
-    true
+    list[..count].is_sorted()
 }
 
 // The place where the count entries from from on name it, and the first of them otherwise.
@@ -214,20 +196,18 @@ fn kept_in(lists: &[u8], from: usize, count: usize, place: u8) -> u8
     requires { (0 < count) × (from + count ≤ length lists.now) }
     ensures { result ≡ kept place (take count (drop from lists.now)) }
 {
-    if listed(lists, from, count, place as u32) {
-        return place;
+    if listed(lists, from, count, u32::from(place)) {
+        place
+    } else {
+        lists[from]
     }
-    lists[from]
 }
 
 // x is one of 1 to k.
 pub fn within(x: usize, k: usize) -> bool
     ensures { result ≡ leb 1 x and leb x k }
 {
-    if x == 0 {
-        return false;
-    }
-    x <= k
+    1 <= x && x <= k
 }
 
 // A list as a row of a sheet.
@@ -237,10 +217,8 @@ fn row_of(list: &[u32]) -> [u8; 24]
     ensures { result ≡ padded 24 list.now }
 {
     let mut row = [0u8; 24];
-    let mut i = 0;
-    while i < list.len() {
-        row[i] = list[i] as u8;
-        i += 1;
+    for (i, x) in list.iter().enumerate() {
+        row[i] = *x as u8;
     }
     row
 }
@@ -249,11 +227,9 @@ fn row_of(list: &[u32]) -> [u8; 24]
 pub fn place_or(p: u32, started: u8, first: u8) -> u32
     ensures { result ≡ pick (not (eqb started 1) and eqb p 0) first p }
 {
-    if started == 1 {
-        return p;
+    if started != 1 && p == 0 {
+        u32::from(first)
+    } else {
+        p
     }
-    if p == 0 {
-        return first as u32;
-    }
-    p
 }

@@ -79,21 +79,19 @@ impl Sheet {
         requires { Sound self }
         ensures { result ≡ padded 4800 (mark_rows (book_of self).batches) }
     {
-        let n = self.n;
-        let started = self.started;
-        let places = self.places;
-        let counts = self.counts;
-        let lists = self.lists;
         let mut marks = [0u8; 4800];
-        let mut i = 0;
-        while i < n {
-            if started[i] == 0 {
-                mark_row(&mut marks, i * 24, &lists, counts[i] as usize);
+        for i in 0..self.n {
+            if self.started[i] == 0 {
+                mark_row(
+                    &mut marks,
+                    i * Sheet::INSTRUMENTS,
+                    &self.lists,
+                    self.counts[i] as usize,
+                );
             } else {
-                let p = places[i] as usize;
-                marks[i * 24 + (p - 1)] = 1;
+                let p = self.places[i] as usize;
+                marks[i * Sheet::INSTRUMENTS + (p - 1)] = 1;
             }
-            i += 1;
         }
         marks
     }
@@ -103,18 +101,16 @@ impl Sheet {
         requires { Sound self }
         ensures { (result ≡ sheet_of (with_places (book_of self) (kept_places (book_of self) x))) × Sound result }
     {
-        let n = self.n;
-        let started = self.started;
-        let counts = self.counts;
-        let lists = self.lists;
         let mut places = self.places;
-        let mut b = 0;
-        while b < n {
-            if started[b] == 0 {
-                let p = x[b];
-                places[b] = kept_in(&lists, b * Sheet::INSTRUMENTS, counts[b] as usize, p);
+        for b in 0..self.n {
+            if self.started[b] == 0 {
+                places[b] = kept_in(
+                    &self.lists,
+                    b * Sheet::INSTRUMENTS,
+                    self.counts[b] as usize,
+                    x[b],
+                );
             }
-            b += 1;
         }
         self.places = places;
         self
@@ -129,10 +125,7 @@ fn mark_row(marks: &mut [u8], at: usize, lists: &[u8], count: usize)
     requires fact_4 { ((k : ℕ) → k < count → (0 < get_or lists.now (at + k) 0) × (get_or lists.now (at + k) 0 ≤ 24)) }
     ensures { marks.new ≡ paste marks.old at (marks_of (take count (drop at lists.now))) 24 }
 {
-    let mut j = 0;
-    while j < count {
-        let x = lists[at + j] as usize;
-        marks[at + (x - 1)] = 1;
-        j += 1;
+    for x in &lists[at..at + count] {
+        marks[at + (*x as usize - 1)] = 1;
     }
 }

@@ -1,13 +1,12 @@
 -- Laws of columns: the next column by what is left of the number.
-use Prim.Native.Nat.{ℕ, zero, suc, ◌+◌, ◌*◌, ◌/◌, ◌%◌, ◌^◌, ◌≤◌, ◌<◌}
-use mathlib.Core.Path.{◌≡◌, refl, sym, ap, ◌∙◌}
+use Prim.Native.Nat.{ℕ, suc, ◌+◌, ◌*◌, ◌/◌, ◌^◌, ◌≤◌, ◌<◌}
+use mathlib.Core.Path.{◌≡◌, sym, ap, ◌∙◌}
 use mathlib.Core.List.{◌∷◌}
 use native.Mathlib.Nat.{pow-suc, one-le-pow, div-one, div-div-eq-div-mul, div-lt_iff_lt-mul, le-div_iff_mul-le, one-mul}
 use native.Mathlib.Numerals.{add-one}
 use native.Mathlib.Omega.{arith}
 use lib.Dec.{ltb, eqb}
-use borrow.Author.Tests.{ltb-true, ltb-false, le-leb, ne_eqb, eq-eqb}
-use Rattle.rules.specs.Fold.{◌and◌}
+use borrow.Author.Tests.{ltb-true, ltb-false, ne_eqb, eq-eqb}
 use Rattle.rules.specs.Render.{columns}
 use Rattle.theory.proofs.Logic.{by_test}
 use Rattle.text.specs.Columns.{column}
@@ -48,18 +47,3 @@ rest-turn w v r e = ap (λ (x : ℕ). x / 10) e ∙ sym (tenth w v) ∙ ap (λ (
 
 pub all_left : (v : ℕ) → v ≡ v / 10 ^ 0
 all_left v = sym (div-one v)
-
--- the next column: a digit for the last, then blanks from where nothing is left
-pub column-last : (w r : ℕ) → w ≡ 0 → column w r ≡ 48 + r % 10
-unfolding ◌and◌
-column-last w r e = rw e
-
-pub column-blank : (w r : ℕ) → (w ≡ 0 → ⊥) → r ≡ 0 → column w r ≡ 32
-unfolding ◌and◌
-column-blank zero r h e = absurd (h refl)
-column-blank (suc w) r h e = rw (e, le-leb 1 (suc w) (omega arith))
-
-pub column-digit : (w r : ℕ) → (r ≡ 0 → ⊥) → column w r ≡ 48 + r % 10
-unfolding ◌and◌
-column-digit zero r h = refl
-column-digit (suc w) r h = rw (ne_eqb r 0 h, le-leb 1 (suc w) (omega arith))

@@ -1,13 +1,15 @@
-// Texts of numbers in columns, written into a lent buffer.
+// Texts of numbers in columns, written into a lent buffer `out` from index `at` on. The two stay apart: a struct of both would hold a loan and
+// be made anew for each part of a line, and a writer of the rest alone leaves its caller the same sums of lengths.
 #![tactic(auto)]
 
-ghost use Rattle.std.specs.Prelude.{◌≡◌, [], ◌∷◌, ◌++◌, ◌+◌, ◌*◌, ◌^◌, ◌<◌, ◌≤◌, length, drop};
+ghost use Rattle.std.specs.Prelude.{ℕ, ◌≡◌, [], ◌∷◌, ◌++◌, ◌+◌, ◌*◌, ◌^◌, ◌<◌, ◌≤◌, length, drop, All};
 ghost use Rattle.std.proofs.Math.Seq.{paste};
 ghost use Rattle.rules.specs.Render.{columns, fields, line};
 ghost use Rattle.text.specs.Columns.{column};
+ghost use Rattle.text.specs.Puts.{Puts};
 
 // What a call with a lent buffer answers: the refusal's number, 0 for none, and its line, 0 for none and for 9; and how many bytes the
-// text has, 0 on a refusal.
+// text has, 0 on a refusal. It is of numbers alone, since the exported C functions answer it as it is.
 #[repr(C)]
 #[derive(Clone, Copy)]
 pub struct Hosted {
@@ -20,14 +22,11 @@ pub struct Hosted {
 fn next_column(done: usize, rest: u64) -> u8
     ensures { result ≡ column done rest }
 {
-    let digit = b'0' + (rest % 10) as u8;
-    if done == 0 {
-        return digit;
+    if done > 0 && rest == 0 {
+        b' '
+    } else {
+        b'0' + (rest % 10) as u8
     }
-    if rest == 0 {
-        return b' ';
-    }
-    digit
 }
 
 // Writes `v` right-justified in `width` columns.
@@ -36,22 +35,10 @@ pub fn put_columns(out: &mut [u8], at: usize, width: usize, v: u64)
     ensures { out.new ≡ paste out.old at (columns width v) width }
 {
     let mut rest = v;
-    let mut done: usize = 0;
-    let mut to = at + width;
-    while done < width {
-        to -= 1;
-        out[to] = next_column(done, rest);
-        rest = rest / 10;
-        done += 1;
+    for done in 0..width {
+        out[at + width - (done + 1)] = next_column(done, rest);
+        rest /= 10;
     }
-}
-
-// Writes a field: six columns.
-pub fn put_field(out: &mut [u8], at: usize, v: u32)
-    requires { (at + 6 ≤ length out.old) × (v < 1000000) }
-    ensures { out.new ≡ paste out.old at (columns 6 v) 6 }
-{
-    put_columns(out, at, 6, v as u64);
 }
 
 // Ends a line.
@@ -62,35 +49,25 @@ pub fn put_end(out: &mut [u8], at: usize)
     out[at] = b'\n';
 }
 
-// Writes two fields.
-pub fn put_two(out: &mut [u8], at: usize, a: u32, b: u32)
-    requires { (at + 12 ≤ length out.old) × (a < 1000000) × (b < 1000000) }
-    ensures { out.new ≡ paste out.old at (fields (a ∷ b ∷ [])) 12 }
+// Writes a field for each number: six columns.
+pub fn put_fields<T: Copy + Into<u64>>(out: &mut [u8], at: usize, numbers: &[T])
+    requires room { at + 6 * length numbers.now ≤ length out.old }
+    requires six_columns { All (λ x. (v : ℕ) → T.converts x v → v < 1000000) numbers.now }
+    ensures { Puts T.converts fields numbers.now out.old at out.new }
 {
-    put_field(out, at, a);
-    put_field(out, at + 6, b);
-}
-
-// A byte as a wider number.
-pub fn wide(x: u8) -> u32
-    ensures { (result ≡ x) × (result < 256) }
-{
-    x as u32
+    for (i, x) in numbers.iter().enumerate() {
+        put_columns(out, at + 6 * i, 6, (*x).into());
+    }
 }
 
 // Writes a line of numbers, a field each.
-pub fn put_line(out: &mut [u8], at: usize, list: &[u8])
-    requires { (at + (6 * length list.now + 1) ≤ length out.old) × (length list.now ≤ 24) }
-    ensures { out.new ≡ paste out.old at (line list.now) (6 * length list.now + 1) }
+pub fn put_line<T: Copy + Into<u64>>(out: &mut [u8], at: usize, numbers: &[T])
+    requires room { at + (6 * length numbers.now + 1) ≤ length out.old }
+    requires six_columns { All (λ x. (v : ℕ) → T.converts x v → v < 1000000) numbers.now }
+    ensures { Puts T.converts line numbers.now out.old at out.new }
 {
-    let mut to = at;
-    let mut i: usize = 0;
-    while i < list.len() {
-        put_field(out, to, wide(list[i]));
-        to += 6;
-        i += 1;
-    }
-    put_end(out, to);
+    put_fields(out, at, numbers);
+    put_end(out, at + 6 * numbers.len());
 }
 
 // Writes how many instruments a list has, the list, and a line's end.
@@ -99,7 +76,7 @@ pub fn put_list(out: &mut [u8], at: usize, list: &[u8])
     ensures { out.new
         ≡ paste out.old at (line (length list.now ∷ list.now)) (6 * (length list.now + 1) + 1) }
 {
-    put_field(out, at, list.len() as u32);
+    put_columns(out, at, 6, list.len() as u64);
     put_line(out, at + 6, list);
 }
 
@@ -108,6 +85,5 @@ pub fn put_pair(out: &mut [u8], a: u32, b: u32)
     requires { (13 ≤ length out.old) × (a < 1000000) × (b < 1000000) }
     ensures { out.new ≡ line (a ∷ b ∷ []) ++ drop 13 out.old }
 {
-    put_two(out, 0, a, b);
-    put_end(out, 12);
+    put_line(out, 0, &[a, b]);
 }

@@ -1,3 +1,4 @@
+pub mod Deeds
 pub mod JobActing
 pub mod MachineActing
 pub mod Running

@@ -1,73 +1,66 @@
 // One step of a trial: one push or one lift.
-ghost use Rattle.std.specs.Prelude.{List, ℕ, ◌≤◌, length};
+ghost use Rattle.std.specs.Prelude.{◌<◌, ◌≤◌, length};
 ghost use Rattle.rules.specs.Instance.{Instance};
 ghost use Rattle.rules.specs.Trial.{Limits};
-ghost use Rattle.trials.specs.Track.{JobActs, MachineActs, Trying, Stepped};
+ghost use Rattle.trials.specs.Track.{JobActs, MachineActs, Trying, Moved, Stepped};
 
-use crate::State;
+use crate::{Bounds, State};
+use arrays::Jobs;
 use scans::scan::{
     first_able, job_below, least_job, least_machine, machine_below, some_underloaded,
 };
+use std::ops::ControlFlow;
 
 // The lowest job that waits, `b` by index, goes to a machine just below it, or is lifted.
-fn job_step(t: State, minutes: &[u16], masks: &[u32], m: usize, n: usize, b: usize) -> State
-    requires job_acts { (I : Instance) × (a : Limits) × JobActs I a m n minutes.now masks.now t b }
-    requires n_in_bounds { (n ≤ length minutes.now) × (n ≤ length masks.now) }
-    ensures { (I : Instance) (a : Limits) → JobActs I a m n minutes.now masks.now t b → Stepped I a masks.now t result }
+fn job_step(mut t: State, jobs: &Jobs, b: usize) -> State
+    requires within { b < jobs.now.n }
+    requires acts { (I : Instance) × (a : Limits) × JobActs I a jobs.now t b }
+    ensures { (I : Instance) (a : Limits) → JobActs I a jobs.now t b → Moved I a jobs.now t result }
 {
-    let h = t.jobs[b];
-    let mask = masks[b];
-    let to = machine_below(&t.machines, mask, m, h);
-    if to != 0 {
-        return t.place(b, to - 1, minutes[b] as u32, masks, n);
+    let mask = jobs.masks[b];
+    if let Some(i) = machine_below(&t.machines, mask, jobs.m, t.jobs[b]) {
+        return t.place(jobs, b, i);
     }
-    let k = least_machine(&t.machines, mask, m);
-    let low = t.machines[k - 1];
-    t.lift_job(b, low + 1)
+    // It waits, so some machine may run it.
+    let lowest = least_machine(&t.machines, mask, jobs.m).unwrap();
+    t.jobs[b] = t.machines[lowest] + 1;
+    t.lifts += 1;
+    t
 }
 
 // Machine `i`, by index, that may act, takes a job just below it off, or is lifted.
-fn machine_step(t: State, minutes: &[u16], n: usize, i: usize) -> State
-    requires by_index { (I : Instance) × (a : Limits) × (sets : List ℕ) × MachineActs I a n minutes.now sets t i }
-    requires n_in_bounds { n ≤ length minutes.now }
-    ensures { (I : Instance) (a : Limits) (sets : List ℕ) → MachineActs I a n minutes.now sets t i → Stepped I a sets t result }
+fn machine_step(mut t: State, jobs: &Jobs, i: usize) -> State
+    requires within { i < 24 }
+    requires acts { (I : Instance) × (a : Limits) × MachineActs I a jobs.now t i }
+    ensures { (I : Instance) (a : Limits) → MachineActs I a jobs.now t i → Moved I a jobs.now t result }
 {
-    let h = t.machines[i];
-    let p = (i + 1) as u8;
-    let b = job_below(&t.places, &t.jobs, n, p, h);
-    if b != 0 {
-        return t.take_off(b - 1, i, minutes[b - 1] as u32);
+    let number = (i + 1) as u8;
+    if let Some(b) = job_below(&t.placement.places, &t.jobs, jobs.n, number, t.machines[i]) {
+        return t.take_off(jobs, b, i);
     }
-    let k = least_job(&t.places, &t.jobs, n, p);
-    let low = t.jobs[k - 1];
-    t.lift_machine(i, low + 1)
+    // It is overloaded, so some job is on it.
+    let lowest = least_job(&t.placement.places, &t.jobs, jobs.n, number).unwrap();
+    t.machines[i] = t.jobs[lowest] + 1;
+    t.lifts += 1;
+    t
 }
 
-// One step: the lowest job that waits acts, or else the lowest machine that may. Where nothing acts the state rests.
-pub fn step(
-    t: State,
-    minutes: &[u16],
-    masks: &[u32],
-    low: &[u32],
-    high: &[u32],
-    m: usize,
-    n: usize,
-) -> State
-    requires trying { (I : Instance) × (a : Limits) × Trying I a m n minutes.now masks.now low.now high.now t }
-    requires n_in_bounds { (n ≤ length minutes.now) × (n ≤ length masks.now) × (m ≤ length low.now) × (m ≤ length high.now) }
-    ensures { (I : Instance) (a : Limits) → Trying I a m n minutes.now masks.now low.now high.now t
-        → Stepped I a masks.now t result }
+// One step: the lowest job that waits acts, or else the lowest machine that may. The trial goes on from the state after it, and
+// breaks off with the state where nothing acts.
+pub fn step(t: State, jobs: &Jobs, bounds: &Bounds) -> ControlFlow<State, State>
+    requires trying { (I : Instance) × (a : Limits) × Trying I a jobs.now bounds.now t }
+    requires bounded { (jobs.now.m ≤ length bounds.now.low.now) × (jobs.now.m ≤ length bounds.now.high.now) }
+    ensures { (I : Instance) (a : Limits) → Trying I a jobs.now bounds.now t → Stepped I a jobs.now t result }
 {
-    if !some_underloaded(&t.loads, low, m) {
-        return t.rest();
+    if !some_underloaded(&t.placement.loads, bounds.low, jobs.m) {
+        return ControlFlow::Break(t);
     }
-    let b = t.waiting;
-    if b != 0 {
-        return job_step(t, minutes, masks, m, n, b - 1);
+    if let Some(b) = t.waiting {
+        return ControlFlow::Continue(job_step(t, jobs, b));
     }
-    let i = first_able(&t.loads, &t.machines, high, m, (2 * m) as u8);
-    if i == 0 {
-        return t.rest();
+    let top = (2 * jobs.m) as u8;
+    match first_able(&t.placement.loads, &t.machines, bounds.high, jobs.m, top) {
+        Some(i) => ControlFlow::Continue(machine_step(t, jobs, i)),
+        None => ControlFlow::Break(t),
     }
-    machine_step(t, minutes, n, i - 1)
 }

@@ -1,125 +1,147 @@
--- A number digit by digit, as a loop reads it from a place of a file on.
+-- A number digit by digit, as a loop reads it from the front.
 use Prim.Native.Nat.{ℕ, zero, suc, ◌+◌, ◌-◌, ◌*◌, ◌≤◌, ◌<◌, ◌^◌}
 use mathlib.Core.Path.{◌≡◌, refl, sym, ap, ◌∙◌}
-use mathlib.Core.Bool.{true, false}
+use mathlib.Core.Bool.{Bool, true}
 use mathlib.Core.List.{List, [], ◌∷◌}
 use native.Mathlib.Nat.{pow-suc, pow-le-pow_right}
 use native.Mathlib.Numerals.{add-one}
 use native.Mathlib.Omega.{arith}
-use lib.Dec.{leb, eqb, lit<}
-use lib.ListN.{length, get_or, drop, drop_of_length-le}
-use lib.Seq.{drop-cons}
-use borrow.Author.Tests.{leb-true, leb-false, eq-eqb, ne_eqb}
-use Rattle.rules.specs.Fold.{pick}
+use lib.Dec.{leb, lit<}
+use lib.ListN.{length}
+use borrow.Author.Tests.{leb-true, eq-eqb, ne_eqb}
+use Rattle.std.specs.Char.{is_ascii_digit}
+use Rattle.rules.specs.Fold.{pick, ◌and◌}
 use Rattle.rules.specs.Field.{is_digit}
 use Rattle.theory.proofs.Logic.{by_test, and_left, and_right}
 use Rattle.worklist.specs.Rows.{gives, fails, room, digits_at, number_at}
-use Rattle.worklist.specs.Read.{digit_or_ten}
+use Rattle.worklist.specs.Read.{digit_at}
 
--- ---- the digit at a place
+-- ---- the digit in front
 
-pub record DigitRead (s : List ℕ) (at d : ℕ) : Type 0 where
-  pub byte : ℕ
-  pub digit : is_digit byte ≡ true
-  pub low : 48 ≤ byte
-  pub value : byte - 48 ≡ d
-  pub here : drop at s ≡ byte ∷ drop (at + 1) s
-  pub room : at < length s
+same-test : (x : ℕ) → is_ascii_digit x ≡ is_digit x
+unfolding ◌and◌
+same-test x = by_test (leb 48 x) (λ t. rw t) (λ t. rw t)
 
-pub digit-read : (s : List ℕ) (at d : ℕ) → d ≡ digit_or_ten (drop at s) → d ≤ 9 → DigitRead s at d
-digit-read s at d e h = by_test (leb (length s) at) (λ t. absurd (past (leb-true _ _ t))) (λ t. there (leb-false (length s) at t))
-  where
-    past : length s ≤ at → ⊥
-    past l = let z : d ≡ 10 = e ∙ ap digit_or_ten (drop_of_length-le s {i = at} l) in omega arith
+-- the byte x in front, which the test t says to be a digit or none
+pub digit-here : (s r : List ℕ) (x : ℕ) (t : Bool) → s ≡ x ∷ r → t ≡ is_ascii_digit x → pick t (gives (x - 48) r) fails ≡ digit_at s
+digit-here s r x t e i = rw (e, i, same-test x)
 
-    there : at < length s → DigitRead s at d
-    there l =
-        let x = get_or s at 0 in
-        let q : drop at s ≡ x ∷ drop (at + 1) s = drop-cons s at 0 l ∙ rw add-one in
-        let f : d ≡ pick (is_digit x) (x - 48) 10 = e ∙ ap digit_or_ten q in
-        by_test (is_digit x)
-        (λ t. record {
-          byte = x;
-          digit = t;
-          low = leb-true 48 x (and_left _ _ t);
-          value = sym (f ∙ rw t);
-          here = q;
-          room = l;
-        })
-        (λ t. absurd (let z : d ≡ 10 = f ∙ rw t in omega arith))
+record DigitRead (s r : List ℕ) (d : ℕ) : Type 0 where
+  byte : ℕ
+  all : s ≡ byte ∷ r
+  digit : is_digit byte ≡ true
+  low : 48 ≤ byte
+  value : byte - 48 ≡ d
+  few : d ≤ 9
+
+digit-read : (s r : List ℕ) (d : ℕ) → gives d r ≡ digit_at s → DigitRead s r d
+digit-read [] r d e = absurd (let z : gives d r ≡ fails = e in cc)
+digit-read (x ∷ s) r d e =
+    by_test (is_digit x)
+    (λ t.
+    let g : gives d r ≡ gives (x - 48) s = e ∙ rw t in
+    let v : x - 48 ≡ d = cc in
+    let a : s ≡ r = cc in record {
+      byte = x;
+      all = rw a;
+      digit = t;
+      low = leb-true 48 x (and_left _ _ t);
+      value = v;
+      few = omega (arith, leb-true x 57 (and_right (leb 48 x) _ t));
+    })
+    (λ t. absurd (let z : gives d r ≡ fails = e ∙ rw t in cc))
 
 -- ---- none stands there
 
-digit-few : (x : ℕ) → is_digit x ≡ true → 9 < x - 48 → ⊥
-digit-few x i l = omega (arith, leb-true x 57 (and_right (leb 48 x) _ i))
-
-pub no_number : (t : List ℕ) → 9 < digit_or_ten t → number_at t ≡ fails
-unfolding number_at
-no_number [] h = refl
-no_number (x ∷ t) h = by_test (is_digit x) (λ i. absurd (digit-few x i (rw i at h))) (λ i. rw i)
-
-pub no_more : (j v : ℕ) (t : List ℕ) → 9 < digit_or_ten t → digits_at j v t ≡ gives v t
+no_more : (j v : ℕ) (t : List ℕ) → fails ≡ digit_at t → gives v t ≡ digits_at j v t
 unfolding digits_at
 no_more j v [] h = refl
 no_more zero v (x ∷ t) h = refl
-no_more (suc j) v (x ∷ t) h = by_test (is_digit x) (λ i. absurd (digit-few x i (rw i at h))) (λ i. rw i)
+no_more (suc j) v (x ∷ t) h = by_test (is_digit x) (λ i. absurd (let z : fails ≡ gives (x - 48) t = h ∙ rw i in cc)) (λ i. rw i)
 
-pub digits-full : (v : ℕ) (t : List ℕ) → digits_at 0 v t ≡ gives v t
+digits-full : (v : ℕ) (t : List ℕ) → gives v t ≡ digits_at 0 v t
 unfolding digits_at
 digits-full v [] = refl
 digits-full v (x ∷ t) = refl
 
+pub no_number : (t : List ℕ) → fails ≡ digit_at t → fails ≡ number_at t
+unfolding number_at
+no_number [] h = refl
+no_number (x ∷ t) h = by_test (is_digit x) (λ i. absurd (let z : fails ≡ gives (x - 48) t = h ∙ rw i in cc)) (λ i. rw i)
+
 -- ---- the first digit
 
-module _ (s : List ℕ) (at d : ℕ) (r : DigitRead s at d) where
-  first-digit : number_at (drop at s) ≡ digits_at (room r.byte) d (drop (at + 1) s)
-  unfolding number_at
-  first-digit = rw (r.here, r.digit, r.value)
+first-digit : {s r : List ℕ} {d : ℕ} (f : DigitRead s r d) → number_at s ≡ digits_at (room f.byte) d r
+unfolding number_at
+first-digit f = rw (f.all, f.digit, f.value)
 
-  pub lone-zero : d ≡ 0 → number_at (drop at s) ≡ gives 0 (drop (at + 1) s)
-  lone-zero e =
-      let z : eqb r.byte 48 ≡ true = eq-eqb r.byte 48 (omega (arith, r.low, r.value)) in
-      first-digit ∙ rw (z, e) (digits-full 0 (drop (at + 1) s))
+module _ (s r : List ℕ) (d : ℕ) (e : gives d r ≡ digit_at s) where
+  pub digit-few : d ≤ 9
+  digit-few = (digit-read s r d e).few
 
-  pub five-more : (d ≡ 0 → ⊥) → number_at (drop at s) ≡ digits_at 5 d (drop (at + 1) s)
+  pub lone-zero : d ≡ 0 → gives 0 r ≡ number_at s
+  lone-zero z =
+      let f = digit-read s r d e in
+      let q : room f.byte ≡ 0 = rw (eq-eqb f.byte 48 (omega (arith, f.low, f.value))) in
+      digits-full 0 r ∙ ap (λ (v : ℕ). digits_at 0 v r) (sym z) ∙ ap (λ (j : ℕ). digits_at j d r) (sym q) ∙ sym (first-digit f)
+
+  pub five-more : (d ≡ 0 → ⊥) → digits_at 5 d r ≡ number_at s
   five-more n =
-      let z : eqb r.byte 48 ≡ false = ne_eqb r.byte 48 (λ e. n (sym r.value ∙ ap (λ (x : ℕ). x - 48) e)) in
-      first-digit ∙ rw z
+      let f = digit-read s r d e in
+      let q : room f.byte ≡ 5 = rw (ne_eqb f.byte 48 (λ z. n (sym f.value ∙ ap (λ (x : ℕ). x - 48) z))) in
+      ap (λ (j : ℕ). digits_at j d r) (sym q) ∙ sym (first-digit f)
 
--- ---- i of the digits after the first are read, up to next
+-- ---- i of the digits after the first are read
 
-module _ (s : List ℕ) (at first : ℕ) where
-  pub record DigitsSofar (value next i : ℕ) : Type 0 where
-    pub few : i ≤ 5
-    pub room : next ≤ length s
+module _ (first : ℕ) (s : List ℕ) where
+  pub record DigitsSofar (value : ℕ) (rest : List ℕ) (i : ℕ) : Type 0 where
     pub small : value < 10 ^ suc i
-    pub rest : digits_at (5 - i) value (drop next s) ≡ digits_at 5 first (drop at s)
+    pub same : digits_at (5 - i) value rest ≡ digits_at 5 first s
 
-  pub none_yet : at ≤ length s → first ≤ 9 → DigitsSofar first at 0
-  none_yet h l = record { few = omega arith; room = h; small = omega arith; rest = refl }
+  pub none_yet : first ≤ 9 → DigitsSofar first s 0
+  none_yet l = record { small = omega arith; same = refl }
 
-  module _ (value next i : ℕ) (f : DigitsSofar value next i) where
-    pub value-small : i < 5 → value < 100000
+  module _ (value : ℕ) (rest : List ℕ) (i : ℕ) (f : DigitsSofar value rest i) where
+    value-small : i < 5 → value < 100000
     value-small h = omega (arith, f.small, pow-le-pow_right {n = 10} (lit< tt) {i = suc i} {j = 5} (omega arith))
 
-    pub one_more : (d : ℕ) → i < 5 → d ≤ 9 → DigitRead s next d → DigitsSofar (10 * value + d) (next + 1) (i + 1)
-    unfolding digits_at
-    one_more d h l r =
-        let e : 5 - i ≡ suc (5 - (i + 1)) = omega arith in
-        let q : digits_at (suc (5 - (i + 1))) value (r.byte ∷ drop (next + 1) s) ≡ digits_at 5 first (drop at s) =
-        rw (e, r.here) at f.rest in
-        record {
-          few = omega arith;
-          room = omega (arith, r.room);
-          small = rw (add-one, pow-suc 10 (suc i)) (omega (arith, f.small));
-          rest = rw (r.digit, r.value) at q;
-        }
+    -- one more digit
+    module _ (d : ℕ) (r : List ℕ) (h : i < 5) (e : gives d r ≡ digit_at rest) where
+      pub value-fits : 10 * value + d < 1000000
+      value-fits = omega (arith, value-small h, digit-few rest r d e)
+
+      pub one_more : DigitsSofar (10 * value + d) r (i + 1)
+      unfolding digits_at
+      one_more =
+          let g = digit-read rest r d e in
+          let a : 5 - i ≡ suc (5 - (i + 1)) = omega arith in
+          let q : digits_at (suc (5 - (i + 1))) value (g.byte ∷ r) ≡ digits_at 5 first s = rw (a, g.all) at f.same in
+          record { small = rw (add-one, pow-suc 10 (suc i)) (omega (arith, f.small, g.few)); same = rw (g.digit, g.value) at q }
 
     -- what follows is no digit, or all five are read
-    pub then-ended : 9 < digit_or_ten (drop next s) → gives value (drop next s) ≡ digits_at 5 first (drop at s)
-    then-ended h = sym (no_more (5 - i) value (drop next s) h) ∙ f.rest
+    pub then-ended : fails ≡ digit_at rest → gives value rest ≡ digits_at 5 first s
+    then-ended h = no_more (5 - i) value rest h ∙ f.same
 
-    pub all_read : 5 ≤ i → gives value (drop next s) ≡ digits_at 5 first (drop at s)
+    pub all_read : 5 ≤ i → gives value rest ≡ digits_at 5 first s
     all_read h =
         let e : 5 - i ≡ 0 = omega arith in
-        sym (ap (λ (j : ℕ). digits_at j value (drop next s)) e ∙ digits-full value (drop next s)) ∙ f.rest
+        digits-full value rest ∙ (rw e at f.same)
+
+-- ---- a number leaves no more than there was
+
+digits-left : (j v : ℕ) (s : List ℕ) (w : ℕ) (r : List ℕ) → gives w r ≡ digits_at j v s → length r ≤ length s
+unfolding digits_at
+digits-left j v [] w r e = let q : r ≡ [] = cc in omega (arith, ap length q)
+digits-left zero v (x ∷ s) w r e = let q : r ≡ x ∷ s = cc in omega (arith, ap length q)
+digits-left (suc j) v (x ∷ s) w r e =
+    by_test (is_digit x)
+    (λ t. omega (arith, digits-left j (10 * v + (x - 48)) s w r (rw t at e)))
+    (λ t. let q : gives w r ≡ gives v (x ∷ s) = rw t at e in let z : r ≡ x ∷ s = cc in omega (arith, ap length z))
+
+pub number-left : (s : List ℕ) (w : ℕ) (r : List ℕ) → gives w r ≡ number_at s → length r ≤ length s
+unfolding number_at
+number-left [] w r e = absurd (let z : gives w r ≡ fails = e in cc)
+number-left (x ∷ s) w r e =
+    by_test (is_digit x)
+    (λ t. omega (arith, digits-left (room x) (x - 48) s w r (rw t at e)))
+    (λ t. absurd (let z : gives w r ≡ fails = rw t at e in cc))

@@ -7,8 +7,8 @@
 --   Grammar                  csv is the RFC's grammar, rule by rule (csv-is, csv-reads)
 --   Clean                    a good row holds digits, commas and quotes alone (row-reads)
 --   Outcome                  all of it in the grammar's words (answer, says-read, fault-read)
---   Leaving, Digits, Reading, Kept, Listing, RowParts, Passing
---                            the code's readers: what each part of a row leaves behind it, and the first pass
+--   Digits, Reading, Kept, Listing, RowParts, Passing
+--                            the code's readers part by part, and the first pass
 --   Entering, Taking         the second pass, and the answer
 --   Claims                   what is claimed of taking a worklist
 pub mod Bytes
@@ -27,7 +27,6 @@ pub mod Members
 pub mod Grammar
 pub mod Clean
 pub mod Outcome
-pub mod Leaving
 pub mod Digits
 pub mod Reading
 pub mod Kept

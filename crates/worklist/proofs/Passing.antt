@@ -1,23 +1,23 @@
 -- The rows of a file, passed one by one and counted.
 use Prim.Native.Nat.{ℕ, suc, ◌+◌, ◌≤◌, ◌<◌}
 use mathlib.Core.Path.{◌≡◌, refl, sym, ap, ◌∙◌}
-use mathlib.Core.Bool.{true, false}
 use mathlib.Core.List.{List, [], ◌∷◌}
 use native.Mathlib.Numerals.{add-one}
 use native.Mathlib.Omega.{arith}
-use lib.ListN.{length, take, drop, length-drop, drop_of_length-le}
-use lib.Seq.{drop-cons}
+use lib.Dec.{eqb}
+use lib.ListN.{length, take}
+use borrow.Author.Tests.{eqb-false}
+use mathlib.Core.Bool.{false}
+use Rattle.std.specs.Prelude.{Result, Ok, Err}
 use Rattle.rules.specs.Worklist.{Worklist, rows, faulty_row, row_first, worklist}
 use Rattle.rules.specs.Worklist as W
-use Rattle.theory.proofs.Logic.{conflict}
 use Rattle.worklist.specs.declared.row.Row.{Row}
-use Rattle.worklist.specs.declared.row.Rows.{Rows}
+use Rattle.worklist.specs.declared.row.FaultyRow.{FaultyRow}
 use Rattle.worklist.specs.Rows.{Front, gives, fails, number_at, row_at, row_then, rows_from, rows_read}
 use Rattle.sheet.specs.Represent.{firsts}
-use Rattle.worklist.specs.Read.{row_as, rows_as}
+use Rattle.worklist.specs.Read.{kept_row, rows_as}
 use Rattle.worklist.proofs.File.{worklist-same}
 use Rattle.worklist.proofs.Loop.{row-shorter, rows-loop}
-use Rattle.worklist.proofs.Leaving.{Leaves, row-leaves, place_of}
 
 -- the rows of s, the first of which is row j; none where nothing is left
 abbrev pub rows_after : ℕ → List ℕ → Worklist
@@ -37,66 +37,47 @@ rows_next j s w r e = rows-loop j s ∙ rw e (then-after (suc j) w r)
 pub rows-fault : (j : ℕ) (s : List ℕ) → row_at s ≡ fails → rows_from (suc j) s ≡ faulty_row (suc j)
 rows-fault j s e = rows-loop j s ∙ rw e
 
-module _ (s : List ℕ) (at : ℕ) where
-  pub some_left : (j : ℕ) → at < length s → rows_after j (drop at s) ≡ rows_from j (drop at s)
-  some_left j h = rw (drop-cons s at 0 h)
+pub some_left : (j : ℕ) (s : List ℕ) → 0 < length s → rows_after j s ≡ rows_from j s
+some_left j [] h = absurd (omega arith)
+some_left j (x ∷ s) h = refl
 
-  pub none_left : (j : ℕ) → length s ≤ at → rows_after j (drop at s) ≡ rows []
-  none_left j h = rw (drop_of_length-le s {i = at} h)
+pub none_left : (j : ℕ) (s : List ℕ) → length s ≡ 0 → rows_after j s ≡ rows []
+none_left j [] h = refl
+none_left j (x ∷ s) h = absurd (omega arith)
+
+-- some byte is left
+pub not-empty : (s : List ℕ) → false ≡ eqb (length s) 0 → 0 < length s
+not-empty s e = let h = eqb-false (length s) 0 (sym e) in omega arith
 
 -- ---- what the reader of a row answers
 
--- the row at at, its fields, and where the next starts; of its list the first 25 are kept
-pub record RowRead (s : List ℕ) (at : ℕ) (w : W.Row) (r : Row) : Type 0 where
-  pub part : row_at (drop at s) ≡ gives w (drop r.next s)
-  pub minutes : r.minutes ≡ w.minutes
-  pub place : r.place ≡ w.place
-  pub mark : r.mark ≡ w.mark
-  pub count : r.count ≡ length (take 25 w.list)
-  pub list : r.list ≡ firsts w.list
-  pub past : at < r.next
-  pub room : r.next ≤ length s
+row_none : (p : Front W.Row) → fails ≡ kept_row p → p ≡ fails
+row_none (gives w u) e = cc
+row_none fails e = refl
 
-pub record SomeRow (s : List ℕ) (at : ℕ) (r : Row) : Type 0 where
+-- the row in front, of whose list the first 25 are kept
+pub record RowRead (s : List ℕ) (r : Row) (rest : List ℕ) : Type 0 where
   pub row : W.Row
-  pub read : RowRead s at row r
+  pub part : row_at s ≡ gives row rest
+  pub is : r ≡ record { minutes = row.minutes; place = row.place; mark = row.mark; count = length (take 25 row.list); list = firsts row.list }
+  pub shorter : length rest < length s
 
-module _ (s : List ℕ) (at : ℕ) (r : Row) (e : r ≡ row_as (length s) (row_at (drop at s))) where
-  pub row-missing : r.good ≡ false → row_at (drop at s) ≡ fails
-  row-missing g = from (row_at (drop at s)) e
-    where
-      from : (p : Front W.Row) → r ≡ row_as (length s) p → p ≡ fails
-      from (gives w u) d = conflict (ap (λ (x : Row). x.good) d) g
-      from fails d = refl
-
-  pub row_read : at ≤ length s → r.good ≡ true → SomeRow s at r
-  row_read h g = from (row_at (drop at s)) refl (row-leaves s at h) e
-    where
-      from : (p : Front W.Row) → row_at (drop at s) ≡ p → Leaves s at p → r ≡ row_as (length s) p → SomeRow s at r
-      from p q (Leaves.leaves w k l b) d =
-          let n : r.next ≡ k = ap (λ (x : Row). x.next) d ∙ place_of s k b in
-          let a : row_at (drop at s) ≡ gives w (drop r.next s) = q ∙ rw n in
-          record {
-            row = w;
-            read = record {
-              part = a;
-              minutes = ap (λ (x : Row). x.minutes) d;
-              place = ap (λ (x : Row). x.place) d;
-              mark = ap (λ (x : Row). x.mark) d;
-              count = ap (λ (x : Row). x.count) d;
-              list = ap (λ (x : Row). x.list) d;
-              past = omega (arith, row-shorter (drop at s) w (drop r.next s) a, length-drop at s, length-drop r.next s);
-              room = omega arith;
-            };
-          }
-      from p q Leaves.nothing d = conflict g (ap (λ (x : Row). x.good) d)
+pub row_read : (s : List ℕ) (r : Row) (rest : List ℕ) → gives r rest ≡ kept_row (row_at s) → RowRead s r rest
+row_read s r rest e = from (row_at s) refl e
+  where
+    from : (p : Front W.Row) → row_at s ≡ p → gives r rest ≡ kept_row p → RowRead s r rest
+    from (gives w u) q d =
+        let h : u ≡ rest = cc in
+        let a : row_at s ≡ gives w rest = q ∙ rw h in
+        record { row = w; part = a; is = cc; shorter = row-shorter s w rest a }
+    from fails q d = absurd (let z : gives r rest ≡ fails = d in cc)
 
 -- ---- the first pass: the rows so far are counted
 
 -- a file's answer, where k rows come before these
-abbrev pub with_rows : ℕ → Worklist → Rows
-with_rows k (rows ws) = record { fault = 0; count = k + length ws }
-with_rows k (faulty_row j) = record { fault = j; count = 0 }
+abbrev pub with_rows : ℕ → Worklist → Result ℕ FaultyRow
+with_rows k (rows ws) = Ok (k + length ws)
+with_rows k (faulty_row j) = Err (record { row = j })
 
 one_more : (k : ℕ) (w : W.Row) (q : Worklist) → with_rows k (row_first w q) ≡ with_rows (k + 1) q
 one_more k w (rows ws) = let e : k + suc (length ws) ≡ k + 1 + length ws = omega arith in rw e
@@ -111,49 +92,44 @@ unfolding rows_read row_at number_at
 empty-file [] h = worklist-same [] ∙ rows-fault 0 [] refl
 empty-file (x ∷ s) h = absurd (omega arith)
 
--- count rows are read, up to at
-pub record RowsSofar (s : List ℕ) (count at : ℕ) : Type 0 where
-  pub few : count ≤ at
-  pub room : at ≤ length s
-  pub rest : with_rows count (rows_after (suc count) (drop at s)) ≡ rows_as (worklist s)
+module _ (s : List ℕ) where
+  -- count rows are read, and rest is left
+  pub record RowsSofar (count : ℕ) (rest : List ℕ) : Type 0 where
+    pub few : count + length rest ≤ length s
+    pub same : with_rows count (rows_after (suc count) rest) ≡ rows_as (worklist s)
 
-pub none_yet : (s : List ℕ) → 0 < length s → RowsSofar s 0 0
-unfolding rows_read
-none_yet s h = record {
-  few = omega arith;
-  room = omega arith;
-  rest = none_before (rows_after 1 s) ∙ ap rows_as (some_left s 0 1 h ∙ sym (worklist-same s));
-}
+  pub none_yet : 0 < length s → RowsSofar 0 s
+  unfolding rows_read
+  none_yet h = record { few = omega arith; same = none_before (rows_after 1 s) ∙ ap rows_as (some_left 1 s h ∙ sym (worklist-same s)) }
 
-module _ (s : List ℕ) (count at : ℕ) (f : RowsSofar s count at) where
-  pub all_read : length s ≤ at → record { fault = 0; count = count } ≡ rows_as (worklist s)
-  all_read h =
-      let made : Rows = record { fault = 0; count = count } in
-      let e : count + 0 ≡ count = omega arith in
-      let d : made ≡ with_rows count (rows []) = rw e in
-      d ∙ ap (with_rows count) (sym (none_left s at (suc count) h)) ∙ f.rest
+  module _ (count : ℕ) (rest : List ℕ) (f : RowsSofar count rest) where
+    pub all_read : length rest ≡ 0 → Ok count ≡ rows_as (worklist s)
+    all_read h =
+        let e : count + 0 ≡ count = omega arith in
+        let d : Ok count ≡ with_rows count (rows []) = rw e in
+        d ∙ ap (with_rows count) (sym (none_left (suc count) rest h)) ∙ f.same
 
-  module _ (r : Row) (e : r ≡ row_as (length s) (row_at (drop at s))) (h : at < length s) where
-    pub then-faulty : r.good ≡ false → record { fault = count + 1; count = 0 } ≡ rows_as (worklist s)
-    then-faulty g =
-        let made : Rows = record { fault = count + 1; count = 0 } in
-        let d : made ≡ with_rows count (faulty_row (suc count)) = rw add-one in
-        d ∙ ap (with_rows count) (sym (some_left s at (suc count) h ∙ rows-fault count (drop at s) (row-missing s at r e g))) ∙ f.rest
+    module _ (h : 0 < length rest) where
+      pub then-faulty : fails ≡ kept_row (row_at rest) → Err (record { row = count + 1 }) ≡ rows_as (worklist s)
+      then-faulty e =
+          let made : FaultyRow = record { row = count + 1 } in
+          let d : Err made ≡ with_rows count (faulty_row (suc count)) = rw add-one in
+          d ∙ ap (with_rows count) (sym (some_left (suc count) rest h ∙ rows-fault count rest (row_none (row_at rest) e))) ∙ f.same
 
-    pub then-good : r.good ≡ true → RowsSofar s (count + 1) r.next
-    then-good g =
-        let n = row_read s at r e f.room g in
-        let q : rows_after (suc count) (drop at s) ≡ row_first n.row (rows_after (suc (suc count)) (drop r.next s)) =
-        some_left s at (suc count) h ∙ rows_next count (drop at s) n.row (drop r.next s) n.read.part in
-        record {
-          few = omega (arith, f.few, n.read.past);
-          room = n.read.room;
-          rest =
-              ap (λ (i : ℕ). with_rows (count + 1) (rows_after (suc i) (drop r.next s))) (add-one count)
-              ∙ sym (one_more count n.row (rows_after (suc (suc count)) (drop r.next s)))
-              ∙ ap (with_rows count) (sym q)
-              ∙ f.rest;
-        }
+      module _ (r : Row) (u : List ℕ) (e : gives r u ≡ kept_row (row_at rest)) where
+        pub then-good : RowsSofar (count + 1) u
+        then-good =
+            let n = row_read rest r u e in
+            let q : rows_after (suc count) rest ≡ row_first n.row (rows_after (suc (suc count)) u) =
+            some_left (suc count) rest h ∙ rows_next count rest n.row u n.part in
+            record {
+              few = omega (arith, f.few, n.shorter);
+              same =
+                  ap (λ (i : ℕ). with_rows (count + 1) (rows_after (suc i) u)) (add-one count)
+                  ∙ sym (one_more count n.row (rows_after (suc (suc count)) u))
+                  ∙ ap (with_rows count) (sym q)
+                  ∙ f.same;
+            }
 
-    pub further : r.good ≡ true → at < r.next
-    further g = (row_read s at r e f.room g).read.past
+        pub shorter : length u < length rest
+        shorter = (row_read rest r u e).shorter

@@ -1,26 +1,21 @@
 -- A row part by part, as the code reads it.
-use Prim.Native.Nat.{ℕ, ◌≤◌}
-use mathlib.Core.Path.{◌≡◌, refl, sym, ap, ◌∙◌, subst}
-use mathlib.Core.Bool.{Bool, true, false, not}
+use Prim.Native.Nat.{ℕ}
+use mathlib.Core.Path.{◌≡◌, refl, sym, ap, ◌∙◌}
+use mathlib.Core.Bool.{Bool, true, false}
 use mathlib.Core.List.{List, [], ◌∷◌}
-use mathlib.Core.Option.{Option, some, none}
-use native.Mathlib.Nat.{le_refl}
-use lib.Dec.{leb, eqb}
-use lib.ListN.{length, take, drop}
-use borrow.Author.Tests.{leb-true, leb-false, not-true, not-false}
+use mathlib.Core.Option as M
+use lib.Dec.{eqb}
+use lib.ListN.{length, take}
+use Rattle.std.specs.Prelude.{Some, None}
 use Rattle.rules.specs.Csv.{record_end}
 use Rattle.rules.specs.Worklist.{Row}
 use Rattle.theory.proofs.Logic.{by_test}
-use Rattle.worklist.specs.declared.row.Part.{Part}
 use Rattle.worklist.specs.declared.row.Members.{Members}
-use Rattle.worklist.specs.declared.row.Row as D
 use Rattle.worklist.specs.Rows.{Front, gives, fails, and_then, or_fail, byte_at, quoted_or, list_at, row_at}
 use Rattle.sheet.specs.Represent.{firsts}
-use Rattle.worklist.specs.Read.{part_as, plain_at, end_of, then_byte, members_as, row_as}
+use Rattle.worklist.specs.Read.{plain_at, end_as, then_byte, kept, kept_row}
 use Rattle.worklist.proofs.Front.{then_same}
-use Rattle.worklist.proofs.Leaving.{Leaves, quoted-leaves, list-leaves, place_of}
-use Rattle.worklist.proofs.Reading.{PartRead, part-read, part-missing, then-leaves, end-here, end-there}
-use Rattle.worklist.proofs.Listing.{MembersRead, members-read, members-missing}
+use Rattle.worklist.proofs.Listing.{KeptOf, kept-none, kept-some}
 
 -- a field that is a number, with its comma
 abbrev pub field_at : Bool → List ℕ → Front ℕ
@@ -28,7 +23,7 @@ field_at empty r = then_byte 44 (quoted_or (plain_at empty) r)
 
 -- the rest of a row, after what is read of it
 abbrev pub ending : ℕ → ℕ → ℕ → List ℕ → List ℕ → Front Row
-ending t p k l r = and_then (end_of r) (λ z u. gives (record { minutes = t; place = p; mark = k; list = l }) u)
+ending t p k l r = or_fail (record_end r) (λ u. gives (record { minutes = t; place = p; mark = k; list = l }) u)
 
 abbrev pub from_list : ℕ → ℕ → ℕ → List ℕ → Front Row
 from_list t p k r = and_then (list_at r) (λ l u. ending t p k l u)
@@ -53,58 +48,66 @@ then-byte : {Y : Type 0} (b : ℕ) (p : Front ℕ) (f next : ℕ → List ℕ �
 then-byte b (gives v r) f next h = byte-then b v r f ∙ then_same (byte_at b r (λ u. gives v u)) f next h
 then-byte b fails f next h = refl
 
-end-then : (w : Row) (o : Option (List ℕ)) → or_fail o (λ r. gives w r) ≡ and_then {X = ℕ} (or_fail o (λ r. gives 0 r)) (λ z u. gives w u)
-end-then w (some r) = refl
-end-then w none = refl
-
-pub row-parts : (s : List ℕ) → row_at s ≡ from_minutes s
+row-parts : (s : List ℕ) → row_at s ≡ from_minutes s
 unfolding row_at
 row-parts s =
     then-byte 44 (quoted_or (plain_at false) s) _ _ (λ t r₂.
     then-byte 44 (quoted_or (plain_at true) r₂) _ _ (λ p r₄.
-    then-byte 44 (quoted_or (plain_at false) r₄) _ _ (λ k r₆.
-    then_same (list_at r₆) _ _ (λ l r₇.
-    end-then (record { minutes = t; place = p; mark = k; list = l }) (record_end r₇)))))
+    then-byte 44 (quoted_or (plain_at false) r₄) _ _ (λ k r₆. refl)))
 
--- ---- the parts at a place
+-- the row's end is the last part
+module _ (t p k : ℕ) (l : List ℕ) where
+  unended : (o : M.Option (List ℕ)) → None ≡ end_as o
+      → fails ≡ kept_row (or_fail o (λ u. gives (record { minutes = t; place = p; mark = k; list = l }) u))
+  unended (M.some r) e = absurd (let z : None ≡ Some r = e in cc)
+  unended M.none e = refl
 
-module _ (s : List ℕ) (at : ℕ) (h : at ≤ length s) where
-  module _ (empty : Bool) (n : Part) (e : n ≡ part_as (length s) (field_at empty (drop at s))) where
-    pub field-read : not n.good ≡ false → PartRead s at (field_at empty (drop at s)) n
-    field-read g = part-read s at n (then-leaves s at 44 (quoted-leaves s at h empty)) e (not-false n.good g)
+  ended : (count : ℕ) (list r : List ℕ) → count ≡ length (take 25 l) → list ≡ firsts l → (o : M.Option (List ℕ)) → Some r ≡ end_as o
+      → gives (record { minutes = t; place = p; mark = k; count = count; list = list }) r
+      ≡ kept_row (or_fail o (λ u. gives (record { minutes = t; place = p; mark = k; list = l }) u))
+  ended count list r c f (M.some u) e = let q : r ≡ u = cc in rw (q, c, f)
+  ended count list r c f M.none e = absurd (let z : Some r ≡ None = e in cc)
 
-    pub field-missing : not n.good ≡ true → field_at empty (drop at s) ≡ fails
-    field-missing g = part-missing s (field_at empty (drop at s)) n e (not-true n.good g)
+-- ---- the parts one after the other: what is left of a row s says the rest of it
 
-  module _ (m : Members) (e : m ≡ members_as (length s) (list_at (drop at s))) where
-    pub list_read : not m.good ≡ false → MembersRead s at (list_at (drop at s)) m
-    list_read g = members-read s at m (list-leaves s at h) e (not-false m.good g)
+module _ (s : List ℕ) where
+  no-row : fails ≡ row_at s → fails ≡ kept_row (row_at s)
+  no-row e = ap kept_row e
 
-    pub list-missing : not m.good ≡ true → list_at (drop at s) ≡ fails
-    list-missing g = members-missing s (list_at (drop at s)) m e (not-true m.good g)
+  pub no-minutes : fails ≡ field_at false s → fails ≡ kept_row (row_at s)
+  no-minutes e = no-row (ap (λ (p : Front ℕ). and_then p from_place) e ∙ sym (row-parts s))
 
-  here : Leaves {X = ℕ} s at (gives 0 (drop at s))
-  here = Leaves.leaves 0 at (le_refl at) h
+  module _ (t : ℕ) (r₁ : List ℕ) (et : gives t r₁ ≡ field_at false s) where
+    minutes-read : from_place t r₁ ≡ row_at s
+    minutes-read = ap (λ (p : Front ℕ). and_then p from_place) et ∙ sym (row-parts s)
 
-  end_leaves : Leaves s at (end_of (drop at s))
-  end_leaves =
-      by_test (leb (length s) at)
-      (λ t. subst (λ (p : Front ℕ). Leaves s at p) (end-here s at (leb-true _ _ t)) here)
-      (λ t. subst (λ (p : Front ℕ). Leaves s at p) (end-there s at (leb-false (length s) at t)) (then-leaves s at 10 (then-leaves s at 13 here)))
+    pub no-place : fails ≡ field_at true r₁ → fails ≡ kept_row (row_at s)
+    no-place e = no-row (ap (λ (p : Front ℕ). and_then p (from_mark t)) e ∙ minutes-read)
 
-  module _ (n : Part) (e : n ≡ part_as (length s) (end_of (drop at s))) where
-    pub end_read : not n.good ≡ false → PartRead s at (end_of (drop at s)) n
-    end_read g = part-read s at n end_leaves e (not-false n.good g)
+    module _ (p : ℕ) (r₂ : List ℕ) (ep : gives p r₂ ≡ field_at true r₁) where
+      place-read : from_mark t p r₂ ≡ row_at s
+      place-read = ap (λ (x : Front ℕ). and_then x (from_mark t)) ep ∙ minutes-read
 
-    pub end-missing : not n.good ≡ true → end_of (drop at s) ≡ fails
-    end-missing g = part-missing s (end_of (drop at s)) n e (not-true n.good g)
+      pub no-mark : fails ≡ field_at false r₂ → fails ≡ kept_row (row_at s)
+      no-mark e = no-row (ap (λ (x : Front ℕ). and_then x (from_list t p)) e ∙ place-read)
 
--- ---- a row that is read up to next
+      module _ (k : ℕ) (r₃ : List ℕ) (ek : gives k r₃ ≡ field_at false r₂) where
+        mark-read : from_list t p k r₃ ≡ row_at s
+        mark-read = ap (λ (x : Front ℕ). and_then x (from_list t p)) ek ∙ place-read
 
-pub row_made : (s : List ℕ) (w : Row) (list : List ℕ) (count next : ℕ) {q : Front Row} → next ≤ length s
-    → count ≡ length (take 25 w.list) → list ≡ firsts w.list → q ≡ gives w (drop next s)
-    → record { good = true; minutes = w.minutes; place = w.place; mark = w.mark; count = count; list = list; next = next } ≡ row_as (length s) q
-row_made s w list count next h c e q =
-    let made : D.Row = record { good = true; minutes = w.minutes; place = w.place; mark = w.mark; count = count; list = list; next = next } in
-    let d : made ≡ row_as (length s) (gives w (drop next s)) = rw (c, e, place_of s next h) in
-    d ∙ ap (row_as (length s)) (sym q)
+        pub no-list : fails ≡ kept (list_at r₃) → fails ≡ kept_row (row_at s)
+        no-list e = no-row (ap (λ (x : Front (List ℕ)). and_then x (ending t p k)) (kept-none (list_at r₃) e) ∙ mark-read)
+
+        module _ (m : Members) (r₄ : List ℕ) (em : gives m r₄ ≡ kept (list_at r₃)) where
+          listed : KeptOf (list_at r₃) m r₄
+          listed = kept-some (list_at r₃) m r₄ em
+
+          list-read : ending t p k listed.numbers r₄ ≡ row_at s
+          list-read = ap (λ (x : Front (List ℕ)). and_then x (ending t p k)) (sym listed.all) ∙ mark-read
+
+          pub no-end : None ≡ end_as (record_end r₄) → fails ≡ kept_row (row_at s)
+          no-end e = unended t p k listed.numbers (record_end r₄) e ∙ ap kept_row list-read
+
+          pub row-read : (r₅ : List ℕ) → Some r₅ ≡ end_as (record_end r₄)
+              → gives (record { minutes = t; place = p; mark = k; count = m.count; list = m.list }) r₅ ≡ kept_row (row_at s)
+          row-read r₅ e = ended t p k listed.numbers m.count m.list r₅ listed.count listed.same (record_end r₄) e ∙ ap kept_row list-read

@@ -11,7 +11,7 @@ use Rattle.rules.specs.Lent.{text, at_front, into_buffer}
 use Rattle.rules.specs.Worklist.{taken, taken_due, take_host}
 use Rattle.theory.proofs.Rewrite.{most-written}
 use Rattle.theory.proofs.Taken.{taken-sound}
-use Rattle.sheet.specs.declared.Reading as C
+use Rattle.sheet.specs.declared.Fault.{Fault}
 use Rattle.sheet.specs.Answers.{number_of}
 use Rattle.sheet.proofs.Accepted.{Refused}
 use Rattle.text.proofs.Answer.{into-long}
@@ -20,10 +20,10 @@ use Rattle.journal.proofs.Printing.{Modest, into-modest}
 use Rattle.worklist.proofs.Claims.{taken-row}
 
 module _ (m : ℕ) (l s buffer : List ℕ) where
-  pub take-refused : (r : C.Reading) (c : ℕ) → Refused (taken m l s) r → c ≡ number_of r.refusal
-      → record { refusal = c; line = r.line; length = 0; buffer = buffer } ≡ take_host m l s buffer
+  pub take-refused : (f : Fault) (c : ℕ) → Refused (taken m l s) f → c ≡ number_of f.refusal
+      → record { refusal = c; line = f.line; length = 0; buffer = buffer } ≡ take_host m l s buffer
   unfolding take_host into_buffer
-  take-refused r c f e = rw (f.said, e, f.coded)
+  take-refused f c r e = rw (r.said, e, r.coded)
 
   pub take-written : (k : Book) → taken m l s ≡ accepted k → into_buffer (text (written k)) buffer ≡ take_host m l s buffer
   unfolding take_host

@@ -1,27 +1,36 @@
 -- The file of a sound sheet, from its arrays.
 use Prim.Native.Nat.{ℕ, zero, suc, ◌+◌, ◌*◌, ◌≤◌, ◌<◌}
-use mathlib.Core.Path.{◌≡◌, refl, sym, ap, ap₂, ◌∙◌}
+use mathlib.Core.Path.{◌≡◌, refl, sym, ap, ◌∙◌}
+use mathlib.Core.Bool.{true}
+use Rattle.std.proofs.Common.{Ok}
 use mathlib.Core.List.{List, [], ◌∷◌, ◌++◌, map, append_assoc, append-nil, map-append}
 use native.Mathlib.Omega.{arith}
 use lib.ListN.{length, get_or, take, drop, length-append, length-map}
 use lib.Seq.{paste}
-use Rattle.rules.specs.Sheet.{Batch, size}
+use Rattle.std.specs.List.{All, AllByRecursion}
+use Rattle.std.proofs.lemmas.List.Elements.{All-from_recursion}
+use borrow.Author.Tests.{leb-true}
+use Rattle.rules.specs.Fold.{every}
+use Rattle.rules.specs.Sheet.{Book, Batch, size, good_calibration}
+use Rattle.theory.proofs.Format.{good-calibrations-is}
+use Rattle.theory.proofs.Sound.{sound-is}
+use Rattle.theory.proofs.Logic.{and_left, and_right}
 use Rattle.rules.specs.Render.{line, mark, Described, render_batch, render_batches, render, described_batch}
 use Rattle.rules.specs.Read.{read}
 use Rattle.rules.specs.Rewrite.{written}
 use Rattle.theory.proofs.Fields.{line-length}
 use Rattle.theory.proofs.Rewrite.{read-written}
 use Rattle.sheet.specs.declared.Sheet.{Sheet}
-use Rattle.sheet.specs.declared.Refusal.TheVariants.{Nothing}
 use Rattle.sheet.specs.Answers.{read_as}
 use Rattle.sheet.specs.Represent.{padded, rows, batch_at, batches_to, book_of, Sound}
 use Rattle.sheet.proofs.SoundArrays.{book-m, book-size, few-batches, narrow-book, list-size, mark-small}
 use Rattle.sheet.proofs.Padded.{length-padded}
 use Rattle.sheet.proofs.Represent.{length-rows}
-use Rattle.sheet.proofs.SoundViews.{view-calibrated, view-calibrations, view-minutes, view_places, view-started, view-counts, view-rows}
+use Rattle.sheet.proofs.SoundViews.{view-instruments, view-batches, view-calibrated, view-calibrations}
+use Rattle.sheet.proofs.SoundViews.{view-minutes, view_places, view-started, view-counts, view-rows}
 use Rattle.text.proofs.Pasted.{wrote-more, wrote-start, start-wrote}
-use Rattle.written.specs.Lines.{lines_length, lines_to}
-use Rattle.written.proofs.Lines.{Rows, lines-length}
+use Rattle.written.specs.Lines.{batch_lines}
+use Rattle.written.proofs.Lines.{Rows, lines_to, bytes_to, lines-length}
 
 -- one more batch behind others
 batches-snoc : (bs : List Described) (b : Described) → render_batches (bs ++ (b ∷ [])) ≡ render_batches bs ++ render_batch b
@@ -39,124 +48,137 @@ lines_are s (suc b) =
     ∙ batches-snoc (map described_batch (batches_to s b)) (described_batch (batch_at s b))
     ∙ ap (λ (r : List ℕ). r ++ render_batch (described_batch (batch_at s b))) (lines_are s b)
 
--- lines 1 and 2
-abbrev pub head_lines : ℕ → ℕ → List ℕ → List ℕ
-head_lines m n calibrations = line (m ∷ n ∷ []) ++ line calibrations
-
-written_is : (s : Sheet) → written (book_of s)
-    ≡ head_lines s.m s.n (take s.m s.calibrations) ++ lines_to s.minutes s.places s.started s.counts s.lists s.n
-unfolding written render book_of
-written_is s =
-    let e : length (map described_batch (batches_to s s.n)) ≡ s.n =
-    length-map (batches_to s s.n) described_batch ∙ book-size s in
-    let l = line (take s.m s.calibrations) in
-    ap₂ (λ (i : ℕ) (r : List ℕ). line (s.m ∷ i ∷ []) ++ (l ++ r)) e (lines_are s s.n)
-    ∙ sym (append_assoc (line (s.m ∷ s.n ∷ [])) l (lines_to s.minutes s.places s.started s.counts s.lists s.n))
+-- the lines of a sheet's batches, from its arrays
+batch-lines : (s : Sheet) → batch_lines (book_of s) ≡ lines_to s.minutes s.places s.started s.counts s.lists s.n
+unfolding book_of
+batch-lines s = lines_are s s.n
 
 -- ---- what the code takes of a sound sheet, and what it makes of it
 
-pub record Held (s : Sheet) (i c : ℕ) (g t p o k l : List ℕ) : Type 0 where
-  pub instruments : i ≡ s.m
-  pub batches : c ≡ s.n
-  pub calibrations : g ≡ s.calibrations
-  pub minutes : t ≡ s.minutes
-  pub places : p ≡ s.places
-  pub started : o ≡ s.started
-  pub counts : k ≡ s.counts
-  pub lists : l ≡ s.lists
+-- the arrays of a sheet's n batches: what each line needs, and what all of them are
+pub record Held (s : Sheet) (n : ℕ) (t p o k l : List ℕ) : Type 0 where
+  pub each : Rows k l n
+  pub marks : (b : ℕ) → get_or o b 0 ≤ 1
+  pub lines : batch_lines (book_of s) ≡ lines_to t p o k l n
+  pub bytes : length (batch_lines (book_of s)) ≡ bytes_to k n
+
+-- calibrations within the limits have six columns at most
+small : (l : List ℕ) → every good_calibration l ≡ true → AllByRecursion (λ x. (n : ℕ) → n ≡ x → n < 1000000) l
+unfolding every good_calibration
+small [] e = tt
+small (x ∷ l) e =
+    let t = leb-true x 240 (and_left _ _ e) in
+    (λ n f. omega arith, small l (and_right (good_calibration x) _ e))
 
 module _ (s : Sheet) (v : Sound s) where
-  pub sheet-rows : Rows s.counts s.lists s.n
+  sheet-rows : Rows s.counts s.lists s.n
   sheet-rows = record {
+    counted = omega (arith, few-batches s v, counts-long);
     narrow = λ b h. (list-size s v b h).1;
     long = omega (arith, few-batches s v, lists-long);
   }
     where
+      counts-long : length s.counts ≡ 200
+      counts-long =
+          ap length (view-counts s v)
+          ∙ length-padded 200 (map (λ (b : Batch). length b.list) (book_of s).batches)
+          (omega (arith, length-map (book_of s).batches (λ (b : Batch). length b.list), book-size s, few-batches s v))
+
       lists-long : length s.lists ≡ 4800
       lists-long =
           ap length (view-rows s v)
           ∙ length-padded 4800 (rows (book_of s).batches)
           (omega (arith, length-rows (book_of s).batches (narrow-book s v), book-size s, few-batches s v))
 
-  pub held : (i c : ℕ) (g t p o k l : List ℕ) → i ≡ (book_of s).m → c ≡ size (book_of s) → g ≡ padded 24 (book_of s).calibrations
+  batch-bytes : length (batch_lines (book_of s)) ≡ bytes_to s.counts s.n
+  batch-bytes =
+      ap length (batch-lines s) ∙ lines-length s.minutes s.places s.started s.n sheet-rows (omega arith)
+
+  pub held : (n : ℕ) (t p o k l : List ℕ) → n ≡ size (book_of s)
       → t ≡ padded 200 (map (λ (b : Batch). b.minutes) (book_of s).batches) → p ≡ padded 200 (map (λ (b : Batch). b.place) (book_of s).batches)
       → o ≡ padded 200 (map (λ (b : Batch). mark b.started) (book_of s).batches)
       → k ≡ padded 200 (map (λ (b : Batch). length b.list) (book_of s).batches) → l ≡ padded 4800 (rows (book_of s).batches)
-      → Held s i c g t p o k l
-  held i c g t p o k l a b q d e u f h = record {
-    instruments = a ∙ book-m s;
-    batches = b ∙ book-size s;
-    calibrations = q ∙ sym (view-calibrations s v);
-    minutes = d ∙ sym (view-minutes s v);
-    places = e ∙ sym (view_places s v);
-    started = u ∙ sym (view-started s v);
-    counts = f ∙ sym (view-counts s v);
-    lists = h ∙ sym (view-rows s v);
-  }
+      → Held s n t p o k l
+  held n t p o k l a d e u f h =
+      rw (
+        a ∙ book-size s,
+        d ∙ sym (view-minutes s v),
+        e ∙ sym (view_places s v),
+        u ∙ sym (view-started s v),
+        f ∙ sym (view-counts s v),
+        h ∙ sym (view-rows s v),
+      )
+      (record { each = sheet-rows; marks = mark-small s v; lines = batch-lines s; bytes = batch-bytes })
 
-  -- a calibration for each instrument
-  calibrations-long : length (take s.m s.calibrations) ≡ s.m
+  -- how many bytes the lines have, from the counts
+  pub lines-bytes : (n : ℕ) (k : List ℕ) → n ≡ size (book_of s) → k ≡ padded 200 (map (λ (b : Batch). length b.list) (book_of s).batches)
+      → length (batch_lines (book_of s)) ≡ bytes_to k n
+  lines-bytes n k a f = rw (a ∙ book-size s, f ∙ sym (view-counts s v)) batch-bytes
+
+  -- the calibrations in an array of 24
+  pub calibrations-in : (m : ℕ) (g : List ℕ) → m ≡ (book_of s).m → g ≡ padded 24 (book_of s).calibrations → take m g ≡ (book_of s).calibrations
   unfolding book_of
-  calibrations-long = view-calibrated s v
+  calibrations-in m g a q = rw (a ∙ book-m s, q ∙ sym (view-calibrations s v)) refl
 
-  head-length : length (head_lines s.m s.n (take s.m s.calibrations)) ≡ 6 * s.m + 14
-  head-length =
-      let l = take s.m s.calibrations in
-      omega (arith, length-append (line (s.m ∷ s.n ∷ [])) (line l), line-length (s.m ∷ s.n ∷ []), line-length l, calibrations-long)
+  -- none of them has more than six columns
+  pub calibrations-small : (m : ℕ) (g : List ℕ) → m ≡ (book_of s).m → g ≡ padded 24 (book_of s).calibrations
+      → All (λ x. (n : ℕ) → n ≡ x → n < 1000000) (take m g)
+  calibrations-small m g a q =
+      let good = good-calibrations-is _ _ (sound-is (book_of s) v.book).calibrations in
+      rw (calibrations-in m g a q) (All-from_recursion _ (book_of s).calibrations (small (book_of s).calibrations good.each))
 
-  pub written-length : length (written (book_of s)) ≡ 6 * s.m + 14 + lines_length s.counts s.n
-  written-length =
-      let h = head_lines s.m s.n (take s.m s.calibrations) in
-      ap length (written_is s)
-      ∙ length-append h (lines_to s.minutes s.places s.started s.counts s.lists s.n)
-      ∙ omega (arith, head-length, lines-length s.minutes s.places s.started s.n sheet-rows (omega arith))
+-- ---- the file of a book
 
-  -- with the sheet's numbers as the code has them
-  module _ (m c : ℕ) (k : List ℕ) (a : m ≡ (book_of s).m) (b : c ≡ size (book_of s)) (f : k ≡ padded 200 (map (λ (b : Batch). length b.list) (book_of s).batches)) where
-    pub file-length : length (written (book_of s)) ≡ 6 * m + 14 + lines_length k c
-    file-length =
-        written-length
-        ∙ ap₂ (λ (i : ℕ) (l : List ℕ). 6 * s.m + 14 + lines_length l i) (sym (b ∙ book-size s)) (view-counts s v ∙ sym f)
-        ∙ ap (λ (i : ℕ). 6 * i + 14 + lines_length k c) (sym (a ∙ book-m s))
+written-parts : (k : Book) → written k ≡ line (k.m ∷ size k ∷ []) ++ (line k.calibrations ++ batch_lines k)
+unfolding written render
+written-parts k = rw (length-map k.batches described_batch) refl
 
-    pub file-narrow : (o : List ℕ) → o ≡ padded 200 (map (λ (b : Batch). mark b.started) (book_of s).batches)
-        → (i : ℕ) → i < c → (get_or o i 0 ≤ 1) × (get_or k i 0 ≤ 24)
-    file-narrow o g i h =
-        let e : k ≡ s.counts = f ∙ sym (view-counts s v) in
-        let u : o ≡ s.started = g ∙ sym (view-started s v) in
-        (rw u (mark-small s v i), rw e (sheet-rows.narrow i (omega (arith, book-size s))))
+pub written-length : (k : Book) → length k.calibrations ≡ k.m → length (written k) ≡ 6 * k.m + 14 + length (batch_lines k)
+written-length k h =
+    let head = line (k.m ∷ size k ∷ []) in
+    let l = line k.calibrations in
+    ap length (written-parts k)
+    ∙ omega (
+      arith,
+      length-append head (l ++ batch_lines k),
+      length-append l (batch_lines k),
+      line-length (k.m ∷ size k ∷ []),
+      line-length k.calibrations,
+    )
 
-  -- behind line 1 line 2, and behind that all batch lines
-  pub file-wrote : (m n : ℕ) (calibrations minutes places started counts lists d e f g : List ℕ)
-      → Held s m n calibrations minutes places started counts lists
-      → 6 * m + 14 + lines_length counts n ≤ length d → e ≡ line (m ∷ n ∷ []) ++ drop 13 d
-      → f ≡ paste e 13 (line (take m calibrations)) (6 * length (take m calibrations) + 1)
-      → g ≡ paste f (6 * m + 14) (lines_to minutes places started counts lists n) (lines_length counts n)
-      → g ≡ written (book_of s) ++ drop (6 * m + 14 + lines_length counts n) d
-  file-wrote m n calibrations minutes places started counts lists d e f g h r p q t =
-      rw (h.instruments, h.batches, h.counts)
-      (wrote-start
-      (wrote-more (lines_to s.minutes s.places s.started s.counts s.lists s.n) (6 * s.m + 14) (lines_length s.counts s.n)
-      (6 * s.m + 14 + lines_length s.counts s.n)
-      (wrote-more (line (take s.m s.calibrations)) 13 (6 * s.m + 1) (6 * s.m + 14)
-      (start-wrote {d = d} {s = line (s.m ∷ s.n ∷ [])} (line-length (s.m ∷ s.n ∷ [])) (omega (arith, room)) one)
-      refl (omega arith) (omega (arith, line-length (take s.m s.calibrations), calibrations-long)) (omega (arith, room)) two)
-      (omega arith) refl (lines-length s.minutes s.places s.started s.n sheet-rows (omega arith)) (omega (arith, room)) three)
-      (sym (written_is s)))
-    where
-      room : 6 * s.m + 14 + lines_length s.counts s.n ≤ length d
-      room = rw (h.instruments, h.batches, h.counts) at r
+-- behind line 1 line 2, and behind that all batch lines
+pub file-wrote : (k : Book) (d e f g : List ℕ) → length k.calibrations ≡ k.m → length (written k) ≤ length d
+    → e ≡ line (k.m ∷ size k ∷ []) ++ drop 13 d → f ≡ paste e 13 (line k.calibrations) (6 * length k.calibrations + 1)
+    → g ≡ paste f (6 * k.m + 14) (batch_lines k) (length (batch_lines k))
+    → g ≡ written k ++ drop (length (written k)) d
+file-wrote k d e f g h room p q t =
+    let head = line (k.m ∷ size k ∷ []) in
+    let l = line k.calibrations in
+    let n = written-length k h in
+    let one = start-wrote {d = d} {s = head} {e = e} (line-length (k.m ∷ size k ∷ [])) (omega arith) p in
+    let two = wrote-more l 13 (6 * length k.calibrations + 1) (6 * k.m + 14) one refl (omega arith) (line-length k.calibrations) (omega arith) q in
+    wrote-start
+    (wrote-more (batch_lines k) (6 * k.m + 14) (length (batch_lines k)) (length (written k)) two (omega arith) n refl (omega arith) t)
+    (append_assoc head l (batch_lines k) ∙ sym (written-parts k))
 
-      one : e ≡ line (s.m ∷ s.n ∷ []) ++ drop 13 d
-      one = rw (h.instruments, h.batches) at p
+-- ---- the file
 
-      two : f ≡ paste e 13 (line (take s.m s.calibrations)) (6 * s.m + 1)
-      two = (rw (h.instruments, h.calibrations) at q) ∙ ap (λ (i : ℕ). paste e 13 (line (take s.m s.calibrations)) (6 * i + 1)) calibrations-long
+-- no more instruments and batches than a sheet may have
+pub few_instruments : (s : Sheet) → Sound s → (book_of s).m ≤ 24
+few_instruments s v = (view-instruments s v).1
 
-      three : g ≡ paste f (6 * s.m + 14) (lines_to s.minutes s.places s.started s.counts s.lists s.n) (lines_length s.counts s.n)
-      three = rw (h.instruments, h.batches, h.minutes, h.places, h.started, h.counts, h.lists) at t
+pub few_batches : (s : Sheet) → Sound s → size (book_of s) ≤ 200
+few_batches s v = view-batches s v
+
+-- how many bytes the file has, from what the code has of a sound sheet
+pub file-length : (s : Sheet) → Sound s → (m n b : ℕ) (k : List ℕ) → m ≡ (book_of s).m → n ≡ size (book_of s)
+    → k ≡ padded 200 (map (λ (b : Batch). length b.list) (book_of s).batches) → b ≡ bytes_to k n
+    → (length (written (book_of s)) ≡ 6 * m + 14 + b) × (length (batch_lines (book_of s)) ≡ b)
+file-length s v m n b k e f g h =
+    let lines = lines-bytes s v n k f g in
+    (omega (arith, written-length (book_of s) (view-calibrated s v), e, h, lines), lines ∙ sym h)
 
 -- ---- and read again: the very same sheet
 
-pub read_back : (s : Sheet) → Sound s → read_as (read (written (book_of s))) ≡ record { refusal = Nothing; line = 0; sheet = s }
-read_back s v = ap read_as (read-written (book_of s) v.book) ∙ ap (λ (t : Sheet). record { refusal = Nothing; line = 0; sheet = t }) v.arrays
+pub read_back : (s : Sheet) → Sound s → read_as (read (written (book_of s))) ≡ Ok s
+read_back s v = ap read_as (read-written (book_of s) v.book) ∙ ap Ok v.arrays

@@ -3,8 +3,7 @@ ghost use Rattle.std.specs.Prelude.{◌≡◌};
 ghost use Rattle.rules.specs.Worklist.{take_host};
 ghost use Rattle.text.specs.Answer.{hosted_of};
 
-use crate::write::write;
-use sheet::{Refusal, code};
+use crate::write::{hosted, write};
 use text::Hosted;
 use worklist::take::take;
 
@@ -14,15 +13,8 @@ pub fn take_into(m: u32, calibrations: &[u32], worklist: &[u8], out: &mut [u8]) 
     ensures { hosted_of result out.new
         ≡ take_host m calibrations.now worklist.now out.old }
 {
-    let t = take(m, calibrations, worklist);
-    let e = t.refusal;
-    let Refusal::Nothing = e else {
-        return Hosted {
-            refusal: code(e),
-            line: t.line,
-            length: 0,
-        };
-    };
-    let s = t.sheet;
-    write(s, out)
+    match take(m, calibrations, worklist) {
+        Ok(sheet) => hosted(write(sheet, out)),
+        Err(fault) => hosted(Err(fault)),
+    }
 }

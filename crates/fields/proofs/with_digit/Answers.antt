@@ -1,12 +1,16 @@
--- By cases: below the digits, above them, a digit.
-use Rattle.fields.proofs.Columns.{digit-is, digit_low, digit-high}
+use Rattle.std.proofs.Common.{arith}
+use Rattle.std.proofs.lemmas.Bool.Decides.{nat_tests}
+use Rattle.rules.specs.Fold.{◌and◌}
 use Rattle.fields.proofs.with_digit.Goals as goal
 
-pub returns-then-b-lt48 : goal.returns-then-b-lt48
-returns-then-b-lt48 c = rw (digit_low _ c.if-b-lt48.true)
+pub returns-in-48-to-57 : goal.returns-in-48-to-57
+unfolding ◌and◌
+returns-in-48-to-57 c = grind (arith, nat_tests)
 
-pub returns-then-b-gt57 : goal.returns-then-b-gt57
-returns-then-b-gt57 c = rw (digit-high _ c.if-b-gt57.true)
+pub returns-in_default : goal.returns-in_default
+unfolding ◌and◌
+returns-in_default c = grind (arith, nat_tests)
 
-pub returns : goal.returns
-returns c = rw (digit-is _ c.if-b-lt48.false c.if-b-gt57.false)
+pub returns-in_default-2 : goal.returns-in_default-2
+unfolding ◌and◌
+returns-in_default-2 c = grind (arith, nat_tests)

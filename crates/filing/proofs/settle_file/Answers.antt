@@ -1,54 +1,41 @@
 -- The sheet is refused, or the list is too short, or the buffer is, or all is done.
-use mathlib.Core.Path.{refl, ◌∙◌}
+use Rattle.std.proofs.lemmas.Result.{err_from_is_err_and}
 use Rattle.rules.specs.Run.{settling}
-use Rattle.rules.specs.Read.{read}
-use Rattle.sheet.proofs.Accepted.{Accepted, is-accepted, Refused, is-refused}
-use Rattle.filing.proofs.Cases.{not-read, not_made}
-use Rattle.filing.proofs.Replies.{settle-sound, settle-refused, settle-unwritten, settle-untouched, settle-done, settle-nothing}
+use Rattle.sheet.proofs.Accepted.{is-accepted, is-refused}
+use Rattle.filing.proofs.Cases.{not-read, left_alone}
+use Rattle.filing.proofs.Replies.{settle-sound, settle-short, settle-refused, settle-unwritten, settle-done, settle-nothing}
 use Rattle.filing.proofs.settle_file.Goals as goal
 
-pub returns-in_default : goal.returns-in_default
-returns-in_default c =
-    let refused : Refused (read c.args.sheet.now) c.read-r.result = is-refused _ _ c.read-r.ensures.is c.in_default.not-Nothing in
-    let f = refused in
-    let a = c.args in
-    settle-nothing a.sheet.now a.entries _ _ _ _ _ (not-read a.sheet.now (settling a.entries) _ f.refusal _ _ f.said (c.code.ensures ∙ f.coded)) c.no_settle.ensures refl
+pub returns-in_err-sheet : goal.returns-in_err-sheet
+returns-in_err-sheet c =
+    let p = err_from_is_err_and c.from_residual.result c.from_residual.ensures.1 in
+    let f = is-refused _ _ c.in_err-sheet.ensures.is in
+    let h = not-read c.args.sheet.now (settling c.args.entries) c.args.out.now f.refusal _ f.said f.coded in
+    rw (p.1, p.2) (settle-nothing c.args.sheet.now c.args.entries c.args.out.now _ c.args.out.now h (left_alone h))
 
-pub settle_for-z-requires : goal.settle_for-z-requires
-settle_for-z-requires c =
-    let taken : Accepted (read c.args.sheet.now) c.read-r.result = is-accepted _ _ c.read-r.ensures.is c.in-Nothing.is in
-    taken.sound
+pub settle_for-requires : goal.settle_for-requires
+settle_for-requires c = (is-accepted _ _ c.in_ok-sheet.ensures.is).sound
 
-pub returns-in_default-short : goal.returns-in_default-short
-returns-in_default-short c =
-    let taken : Accepted (read c.args.sheet.now) c.read-r.result = is-accepted _ _ c.read-r.ensures.is c.in-Nothing.is in
-    let t = taken in
-    let a = c.args in
-    let f = settle-refused _ t.sound a.entries _ c.settle_for-z.ensures c.in_default-short.not-Nothing in
-    settle-nothing a.sheet.now a.entries _ _ _ _ _ (not_made a.sheet.now (settling a.entries) _ _ t.book f.0) (rw (c.code-in_default-short.ensures ∙ f.1) at c.no_settle-in_default-short.ensures) refl
+pub returns-in_err-planning : goal.returns-in_err-planning
+returns-in_err-planning c =
+    let p = err_from_is_err_and c.from_residual-in_err-planning.result c.from_residual-in_err-planning.ensures.1 in
+    let k = is-accepted _ _ c.in_ok-sheet.ensures.is in
+    let s = settle-short _ c.args.entries _ c.in_err-planning.ensures in
+    rw (p.1, p.2) (settle-refused c.args.sheet.now c.args.entries c.args.out.now _ k.book _ s)
 
-pub write-h-requires : goal.write-h-requires
-write-h-requires c =
-    let taken : Accepted (read c.args.sheet.now) c.read-r.result = is-accepted _ _ c.read-r.ensures.is c.in-Nothing.is in
-    settle-sound _ taken.sound _ _ c.settle_for-z.ensures
+pub write-requires : goal.write-requires
+write-requires c =
+    let k = is-accepted _ _ c.in_ok-sheet.ensures.is in
+    settle-sound _ k.sound c.args.entries _ c.in_ok-planning.ensures
 
-pub returns-then-h-ne0 : goal.returns-then-h-ne0
-returns-then-h-ne0 c =
-    let taken : Accepted (read c.args.sheet.now) c.read-r.result = is-accepted _ _ c.read-r.ensures.is c.in-Nothing.is in
-    let t = taken in
-    let a = c.args in
-    let n = c.if-h-ne0.true in
-    let told = c.in-Nothing-short.is in
-    let wrote = c.write-h.ensures in
-    let made = c.settle_for-z.ensures in
-    settle-nothing a.sheet.now a.entries _ _ _ _ _
-    (settle-unwritten _ t.sound a.entries _ made a.sheet.now a.out.now t.book told _ _ wrote n)
-    c.no_settle-then-h-ne0.ensures
-    (settle-untouched _ t.sound a.entries _ made a.sheet.now a.out.now t.book told _ _ wrote n)
+pub returns-in_err-length : goal.returns-in_err-length
+returns-in_err-length c =
+    let p = err_from_is_err_and c.from_residual-in_err-length.result c.from_residual-in_err-length.ensures.1 in
+    let k = is-accepted _ _ c.in_ok-sheet.ensures.is in
+    rw (p.1, p.2)
+    (settle-unwritten _ k.sound c.args.entries _ c.in_ok-planning.ensures c.args.sheet.now c.args.out.now k.book _ _ c.in_err-length.ensures)
 
 pub returns : goal.returns
 returns c =
-    let taken : Accepted (read c.args.sheet.now) c.read-r.result = is-accepted _ _ c.read-r.ensures.is c.in-Nothing.is in
-    let t = taken in
-    let a = c.args in
-    settle-done _ t.sound a.entries _ c.settle_for-z.ensures a.sheet.now a.out.now t.book c.in-Nothing-short.is _ _ c.write-h.ensures c.if-h-ne0.false
+    let k = is-accepted _ _ c.in_ok-sheet.ensures.is in
+    settle-done _ k.sound c.args.entries _ c.in_ok-planning.ensures c.args.sheet.now c.args.out.now k.book _ _ c.in_ok-length.ensures

@@ -7,21 +7,15 @@ use lib.Seq.{get_or-take, get_or-drop}
 use Rattle.rules.specs.Edit.{kept}
 use Rattle.sheet.proofs.kept_in.Goals as goal
 
-pub listed-requires : goal.listed-requires
-listed-requires c = c.requires.1
-
 pub returns-then-listed : goal.returns-then-listed
 unfolding kept
-returns-then-listed c = rw (sym c.listed.ensures ∙ c.if-listed.true)
+returns-then-listed c = rw (← c.from.ensures, sym c.listed.ensures ∙ c.if-listed.true)
 
-pub bounds-lists-from : goal.bounds-lists-from
-bounds-lists-from c = let p = c.requires in omega (arith, p.0, p.1)
-
-pub returns : goal.returns
+pub returns-else-listed : goal.returns-else-listed
 unfolding kept
-returns c =
+returns-else-listed c =
     let l = c.args.lists.now in
-    rw (sym c.listed.ensures ∙ c.if-listed.false)
+    rw (← c.from.ensures, sym c.listed.ensures ∙ c.if-listed.false)
     (sym (get_or-take c.args.count (drop c.args.from l) 0 0 c.requires.0
     ∙ get_or-drop c.args.from l 0 0
     ∙ ap (λ (i : ℕ). get_or l i 0) (omega arith)))

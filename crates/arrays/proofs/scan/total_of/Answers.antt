@@ -1,26 +1,21 @@
-use mathlib.Core.Path.{◌≡◌, refl}
-use native.Mathlib.Numerals.{add-one}
-use native.Mathlib.Omega.{arith}
-use Rattle.rules.specs.Fold.{sum_to}
+use Rattle.std.proofs.Common.{rules, arith, take, ◌∙◌}
+use borrow.Author.Tests.{tests}
+use lib.ListN.{length-take}
+use Rattle.std.proofs.lemmas.Iterator.{YieldsList-from_slice, YieldsList-from_map}
+use Rattle.std.proofs.lemmas.Iterator.Adapters.{fits_from_length, at_most_from_yields_List}
+use Rattle.std.proofs.lemmas.Iterator.Consumers.{sum_by_from_yields_List}
+use Rattle.arrays.proofs.Folds.{sum-front}
 use Rattle.arrays.proofs.scan.total_of.Goals as goal
 
-pub loop-b-init : goal.loop-b-init
-unfolding sum_to
-loop-b-init c = (omega arith, omega arith, refl)
-
-pub overflow_cast-sum : goal.overflow_cast-sum
-overflow_cast-sum c = omega (arith, c.type_inv.minutes c.loop-b.b)
-
-pub overflow_add-sum : goal.overflow_add-sum
-overflow_add-sum c = omega (arith, c.type_inv.minutes c.loop-b.b)
-
-pub loop-b-preserved : goal.loop-b-preserved
-unfolding sum_to
-loop-b-preserved c =
-    let l = c.loop-b in
-    (omega arith, omega (arith, c.type_inv.minutes l.b), rw (add-one l.b, l.invariant.2))
+pub sum-requires-clause-fits : goal.sum-requires-clause-fits
+sum-requires-clause-fits c =
+    let front = take c.args.n c.args.minutes.now in
+    fits_from_length _ _ 224 _ (at_most_from_yields_List (YieldsList-from_slice front (cc)) (omega (arith, length-take c.args.n c.args.minutes.now)))
+    c.map.ensures.closure (omega arith) (λ x r q k. search (rules, tests))
 
 pub returns : goal.returns
 returns c =
-    let e : c.loop-b.b ≡ c.args.n = omega arith in
-    rw e at c.loop-b.invariant.2
+    let front = take c.args.n c.args.minutes.now in
+    sum_by_from_yields_List (λ x. x) front c.map.result _ c.sum.ensures.ran
+    (YieldsList-from_map _ (λ x. x) (YieldsList-from_slice front (cc)) c.map.ensures.closure (λ x r q k. search (rules, tests)))
+    ∙ sum-front c.args.minutes.now c.args.n (omega arith)

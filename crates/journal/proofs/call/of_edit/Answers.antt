@@ -1,10 +1,8 @@
--- The refusal's number alone.
-use Prim.Native.Nat.{ℕ}
-use mathlib.Core.Path.{ap, ◌∙◌}
-use mathlib.Core.Bool.{false}
-use mathlib.Core.List.{[], ◌∷◌}
-use Rattle.journal.specs.Answering.{made_with}
+-- 0, or the refusal's number.
 use Rattle.journal.proofs.call.of_edit.Goals as goal
 
-pub returns : goal.returns
-returns c = c.of_refusal.ensures ∙ ap (λ (x : ℕ). made_with c.args.e.sheet (x ∷ []) false) c.code.ensures
+pub returns-in-Ok : goal.returns-in-Ok
+returns-in-Ok c = rw c.in-Ok.is c.of.ensures
+
+pub returns-in-Err : goal.returns-in-Err
+returns-in-Err c = rw c.in-Err.is c.of_refusal.ensures

@@ -1,84 +1,54 @@
 -- The kind, the call, and then the LF.
-use Prim.Native.Nat.{ℕ, ◌+◌}
+use Prim.Native.Nat.{ℕ, ◌+◌, ◌≤◌}
+use mathlib.Core.Path.{◌≡◌, refl, sym, ap, ◌∙◌}
+use mathlib.Core.Bool.{true, false}
 use mathlib.Core.List.{List}
-use Rattle.journal.specs.declared.entry.Entry.{Entry}
-use mathlib.Core.Path.{◌≡◌, ap, ◌∙◌}
-use native.Mathlib.Omega.{arith}
 use lib.ListN.{length, drop}
 use Rattle.rules.specs.Read.{gives, end_of_line, number_at}
 use Rattle.rules.specs.Journal.{call_at, call_line}
-use Rattle.sheet.proofs.Scan.{failed, passed}
-use Rattle.fields.proofs.Reading.{NumberRead, field-number, field-none, end-room, end-missing, end-there, next-at}
-use Rattle.journal.specs.Entry.{entry_of}
-use Rattle.journal.proofs.Calls.{call-leaves, EntryRead, given, ending-is, then-faulty}
+use Rattle.fields.proofs.Reading.{end-room, end-missing, end-there, next-at}
+use Rattle.std.proofs.Common.{Some, None}
+use Rattle.fields.specs.Columns.{ends_line}
+use Rattle.journal.specs.declared.entry.Call.{Call}
+use Rattle.journal.specs.Entry.{call_of, entry_as}
+use Rattle.journal.proofs.Calls.{call-leaves, CallRead, given, then-none}
 use Rattle.journal.proofs.entry.entry_at.Goals as goal
 
--- the kind and the call were read: what is left is the LF
-on : (text : List ℕ) (at kind : ℕ) (e : Entry) → NumberRead (number_at (drop at text)) text at kind
-    → (t : EntryRead text (at + 6) 0 (call_at kind (drop (at + 6) text)) e)
-    → call_line (drop at text) ≡ end_of_line (drop e.next text) (λ r. gives t.call r)
+-- the kind and the call were read, and the LF is there, or not
+module _ (s : List ℕ) (at kind : ℕ) (e : Call) (n : ℕ) (k : (number_at (drop at s) ≡ gives kind (drop (at + 6) s)) × (at + 6 ≤ length s))
+    (q : Some (e, n) ≡ entry_as (length s) (call_at kind (drop (at + 6) s))) where
+  read : CallRead s (at + 6) 0 (call_at kind (drop (at + 6) s)) e n
+  read = given s (at + 6) 0 (call_at kind (drop (at + 6) s)) e n k.1 (call-leaves kind (drop (at + 6) s)) q
+
+  on : call_line (drop at s) ≡ end_of_line (drop n s) (λ r. gives read.call r)
+  unfolding call_line
+  on = rw (k.0, read.part)
+
+  ended : ends_line (drop n s) ≡ true → Some (e, n + 1) ≡ entry_as (length s) (call_line (drop at s))
+  ended h =
+      ap (λ (x : Call). Some (x, n + 1)) read.same
+      ∙ ap (λ (i : ℕ). Some (call_of read.call, i)) (next-at s (n + 1) (end-room s n h))
+      ∙ ap (entry_as (length s)) (sym (on ∙ end-there s n (λ r. gives read.call r) h))
+
+  not-ended : ends_line (drop n s) ≡ false → None ≡ entry_as (length s) (call_line (drop at s))
+  not-ended h = ap (entry_as (length s)) (sym (on ∙ end-missing s n (λ r. gives read.call r) h))
+
+pub returns-in_err-kind : goal.returns-in_err-kind
 unfolding call_line
-on text at kind e k t = rw (k.number, t.part)
+returns-in_err-kind c = rw (c.from_residual.ensures, c.in_err-kind.ensures) refl
 
-pub returns-in_default : goal.returns-in_default
+pub returns-in_err-call : goal.returns-in_err-call
 unfolding call_line
-returns-in_default c =
-    let text = c.args.s.now in
-    rw (field-none text c.args.at c.field_at.ensures c.in_default.not-Value) c.none.ensures
+returns-in_err-call c =
+    rw (c.from_residual-in_err-call.ensures, c.in_ok-kind.ensures.0)
+    (then-none (length c.args.s.now) (call_at c.in_ok-kind.kind (drop (c.args.at + 6) c.args.s.now)) _ c.in_err-call.ensures)
 
-pub call_at-c-requires : goal.call_at-c-requires
-call_at-c-requires c =
-    let text = c.args.s.now in
-    let kind-of = c.in-Value.kind in
-    let kind-read : NumberRead (number_at (drop c.args.at text)) text c.args.at kind-of = field-number text c.args.at c.field_at.ensures c.in-Value.is in
-    kind-read.room
+pub returns-then-ends_at : goal.returns-then-ends_at
+returns-then-ends_at c =
+    let k = c.in_ok-kind in
+    ended c.args.s.now c.args.at k.kind c.in_ok-call.call c.in_ok-call.end k.ensures c.in_ok-call.ensures (sym c.if-ends_at.ensures)
 
-pub returns-then-c : goal.returns-then-c
-unfolding call_line
-returns-then-c c =
-    let text = c.args.s.now in
-    let kind-of = c.in-Value.kind in
-    let kind-read : NumberRead (number_at (drop c.args.at text)) text c.args.at kind-of = field-number text c.args.at c.field_at.ensures c.in-Value.is in
-    let rest = drop (c.args.at + 6) text in
-    rw (c.none-then-c.ensures, kind-read.number)
-    (then-faulty (length text) (call_at kind-of rest) c.call_at-c.result _ c.call_at-c.ensures c.if-c.true)
-
-pub returns-then-not-ends_at : goal.returns-then-not-ends_at
-unfolding call_line
-returns-then-not-ends_at c =
-    let text = c.args.s.now in
-    let text2 = text in
-    let kind-of = c.in-Value.kind in
-    let kind-read : NumberRead (number_at (drop c.args.at text)) text c.args.at kind-of = field-number text c.args.at c.field_at.ensures c.in-Value.is in
-    let end = c.call_at-c.result.next in
-    let rest = drop (c.args.at + 6) text in
-    let there : EntryRead text2 (c.args.at + 6) 0 (call_at kind-of rest) c.call_at-c.result = given text2 (c.args.at + 6) 0 _ _ kind-read.room
-    (call-leaves kind-of rest) c.call_at-c.ensures c.if-c.false in
-    let onward = on text2 c.args.at kind-of c.call_at-c.result kind-read there in
-    rw (onward, end-missing text2 _ _ (failed c.ends_at.ensures c.if-not-ends_at.true-raw)) c.none-then-not-ends_at.ensures
-
-pub overflow_add-result : goal.overflow_add-result
-overflow_add-result c =
-    let end = c.call_at-c.result.next in
-    let text = c.args.s.now in
-    let text2 = text in
-    omega (arith, end-room text2 end (passed c.ends_at.ensures c.if-not-ends_at.false-raw))
-
-pub returns : goal.returns
-unfolding call_line
-returns c =
-    let end = c.call_at-c.result.next in
-    let text = c.args.s.now in
-    let text2 = text in
-    let kind-of = c.in-Value.kind in
-    let kind-read : NumberRead (number_at (drop c.args.at text)) text c.args.at kind-of = field-number text c.args.at c.field_at.ensures c.in-Value.is in
-    let rest = drop (c.args.at + 6) text in
-    let there : EntryRead text2 (c.args.at + 6) 0 (call_at kind-of rest) c.call_at-c.result = given text2 (c.args.at + 6) 0 _ _ kind-read.room
-    (call-leaves kind-of rest) c.call_at-c.ensures c.if-c.false in
-    let onward = on text2 c.args.at kind-of c.call_at-c.result kind-read there in
-    let s = text2 in
-    let g = there in
-    let at : ℕ = end in
-    let h = passed c.ends_at.ensures c.if-not-ends_at.false-raw in
-    rw (onward, end-there s at _ h)
-    (ending-is g.call c.call_at-c.result at (at + 1) g.same ∙ ap (entry_of g.call) (next-at s (at + 1) (end-room s at h)))
+pub returns-else-ends_at : goal.returns-else-ends_at
+returns-else-ends_at c =
+    let k = c.in_ok-kind in
+    not-ended c.args.s.now c.args.at k.kind c.in_ok-call.call c.in_ok-call.end k.ensures c.in_ok-call.ensures (sym c.if-ends_at.ensures)

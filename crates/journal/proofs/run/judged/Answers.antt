@@ -1,31 +1,29 @@
--- A sheet that is refused, a journal that is, and neither.
-use mathlib.Core.Path.{sym, ◌∙◌}
-use Rattle.rules.specs.Read.{read}
-use Rattle.sheet.proofs.Accepted.{Accepted, is-accepted, Refused, is-refused}
+-- The sheet's fault, the journal's, or neither.
+use mathlib.Core.Path.{sym}
+use Rattle.std.proofs.lemmas.Result.{err_from_is_err_and}
+use Rattle.sheet.proofs.Accepted.{is-accepted}
 use Rattle.journal.specs.Running.{book_before, judged_of}
-use Rattle.journal.proofs.Hosting.{spells, left-unread, left-faulty, left-good}
+use Rattle.journal.proofs.Hosting.{left-unread, left-faulty, left-good, spells}
 use Rattle.journal.proofs.run.judged.Goals as goal
 
-pub returns-in_default : goal.returns-in_default
+pub returns-in_err-sheet : goal.returns-in_err-sheet
 unfolding judged_of
-returns-in_default c =
-    let unread : Refused (read c.args.sheet.now) c.read-r.result = is-refused _ _ c.read-r.ensures.is c.in_default.not-Nothing in
-    let a = c.args in
-    c.refused.ensures ∙ left-unread book_before a.sheet.now a.journal.now _ _ unread c.code.ensures
+returns-in_err-sheet c =
+    let p = err_from_is_err_and c.from_residual.result c.from_residual.ensures.1 in
+    rw (p.1, p.2) (left-unread book_before c.args.sheet.now c.args.journal.now _ c.in_err-sheet.ensures.is)
 
-pub returns-then-line-ne0 : goal.returns-then-line-ne0
+pub returns-in-Some : goal.returns-in-Some
 unfolding judged_of
-returns-then-line-ne0 c =
-    let taken : Accepted (read c.args.sheet.now) c.read-r.result = is-accepted _ _ c.read-r.ensures.is c.in-Nothing.is in
-    let a = c.args in
-    c.refused-then-line-ne0.ensures
-    ∙ left-faulty book_before a.sheet.now a.journal.now _ _ taken c.fault_line-line.ensures c.if-line-ne0.true
+returns-in-Some c =
+    let text = c.args.sheet.now in
+    left-faulty book_before text c.args.journal.now c.in_ok-sheet.sheet c.in-Some.line
+    (is-accepted text c.in_ok-sheet.sheet c.in_ok-sheet.ensures.is) c.in-Some.ensures
 
-pub returns : goal.returns
+pub returns-in-None : goal.returns-in-None
 unfolding judged_of
-returns c =
-    let taken : Accepted (read c.args.sheet.now) c.read-r.result = is-accepted _ _ c.read-r.ensures.is c.in-Nothing.is in
-    let a = c.args in
-    let t = taken in
-    left-good book_before a.sheet.now a.journal.now _ _ (spells a.journal.now (sym c.fault_line-line.ensures ∙ c.if-line-ne0.false)) t
-    (sym t.sound.arrays)
+returns-in-None c =
+    let text = c.args.sheet.now in
+    let j = c.args.journal.now in
+    let t = c.in_ok-sheet.sheet in
+    let a = is-accepted text t c.in_ok-sheet.ensures.is in
+    left-good book_before text j t t (spells j c.in-None.ensures) a (sym a.sound.arrays)

@@ -1,18 +1,15 @@
 -- What is refused stays so, and otherwise all calls are made.
-use Rattle.journal.proofs.Hosting.{went-sound, went-left, refused-left}
+use Rattle.std.proofs.lemmas.Result.{err_from_is_err_and}
+use Rattle.journal.proofs.Hosting.{refused-left, went-sound, went-left}
 use Rattle.journal.proofs.run.left_by.Goals as goal
 
-pub returns-then-refusal-ne0 : goal.returns-then-refusal-ne0
-returns-then-refusal-ne0 c =
-    let a = c.args in
-    refused-left a.sheet.now a.journal.now _ c.judged-j.ensures c.if-refusal-ne0.true
+pub returns-in_err-sheet : goal.returns-in_err-sheet
+returns-in_err-sheet c =
+    let p = err_from_is_err_and c.from_residual.result c.from_residual.ensures.1 in
+    rw (p.1, p.2) (refused-left c.args.sheet.now c.args.journal.now _ c.in_err-sheet.ensures)
 
-pub make_all-sheet-requires : goal.make_all-sheet-requires
-make_all-sheet-requires c =
-    let a = c.args in
-    went-sound a.sheet.now a.journal.now _ c.judged-j.ensures c.if-refusal-ne0.false
+pub make_all-requires : goal.make_all-requires
+make_all-requires c = went-sound c.args.sheet.now c.args.journal.now c.in_ok-sheet.sheet c.in_ok-sheet.ensures
 
 pub returns : goal.returns
-returns c =
-    let a = c.args in
-    went-left a.sheet.now a.journal.now _ c.judged-j.ensures c.if-refusal-ne0.false _ c.make_all-sheet.ensures
+returns c = went-left c.args.sheet.now c.args.journal.now c.in_ok-sheet.sheet c.in_ok-sheet.ensures _ c.make_all.ensures

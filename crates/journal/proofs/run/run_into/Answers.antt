@@ -1,20 +1,13 @@
--- What is refused stays so, and otherwise the answers are due.
+-- A refusal, or the run.
 use mathlib.Core.Path.{◌∙◌}
-use Rattle.journal.proofs.Hosting.{run-refused, went-sound, run-went}
+use Rattle.journal.proofs.Hosting.{run-refused, run-went, went-sound}
 use Rattle.journal.proofs.run.run_into.Goals as goal
 
-pub returns-then-refusal-ne0 : goal.returns-then-refusal-ne0
-returns-then-refusal-ne0 c =
-    let a = c.args in
-    run-refused a.sheet.now a.journal.now _ c.judged-j.ensures a.answers.now c.if-refusal-ne0.true
-
 pub run_on-requires : goal.run_on-requires
-run_on-requires c =
-    let a = c.args in
-    went-sound a.sheet.now a.journal.now _ c.judged-j.ensures c.if-refusal-ne0.false
+run_on-requires c = went-sound c.args.sheet.now c.args.journal.now c.in-Ok.sheet c.in-Ok.ensures
 
-pub returns : goal.returns
-returns c =
-    let a = c.args in
-    c.run_on.ensures
-    ∙ run-went a.sheet.now a.journal.now _ c.judged-j.ensures a.answers.now c.if-refusal-ne0.false
+pub returns-in-Ok : goal.returns-in-Ok
+returns-in-Ok c = c.run_on.ensures ∙ run-went c.args.sheet.now c.args.journal.now c.in-Ok.sheet c.in-Ok.ensures c.args.answers.now
+
+pub returns-in-Err : goal.returns-in-Err
+returns-in-Err c = rw c.into.ensures (run-refused c.args.sheet.now c.args.journal.now c.in-Err.refused c.args.answers.now c.in-Err.ensures)

@@ -4,17 +4,9 @@ use borrow.Author.Tests.{leb-true, leb-false}
 use Rattle.text.proofs.Answer.{into-short, into-long}
 use Rattle.journal.proofs.run.run_on.Goals as goal
 
-pub fits-requires : goal.fits-requires
-fits-requires c = c.requires
-
 pub returns-then-not-fits : goal.returns-then-not-fits
 returns-then-not-fits c =
-    into-short _ c.args.out.now (leb-false _ _ (sym c.fits.ensures ∙ c.if-not-fits.true))
-
-pub write_answers-length-requires : goal.write_answers-length-requires
-write_answers-length-requires c =
-    let p = c.requires in
-    (p.0, p.1, leb-true _ _ (sym c.fits.ensures ∙ c.if-not-fits.false))
+    rw c.into.ensures (into-short _ c.args.out.now (leb-false _ _ (sym c.fits.ensures ∙ c.if-not-fits.true)))
 
 pub returns : goal.returns
 returns c =

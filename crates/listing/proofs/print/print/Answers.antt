@@ -3,8 +3,8 @@ use native.Mathlib.Omega.{arith}
 use Rattle.listing.proofs.Printing.{is-listed, RefusalPrinted, refusal-told, row-printed, program-short}
 use Rattle.listing.proofs.print.print.Goals as goal
 
-pub returns-then-number-eq0 : goal.returns-then-number-eq0
-returns-then-number-eq0 c =
+pub returns-then-h-eq0 : goal.returns-then-h-eq0
+returns-then-h-eq0 c =
     let l = is-listed _ _ _ _ c.plan_into-h.ensures c.requires (omega arith) in
     record {
       value = l.count;

@@ -1,24 +1,18 @@
 -- Five fields, the columns of the moves, and an end.
-use Prim.Native.Nat.{ℕ, ◌+◌}
-use mathlib.Core.Path.{refl, sym, ap}
-use mathlib.Core.List.{List, [], ◌∷◌, ◌++◌}
-use native.Mathlib.Omega.{arith}
+use Rattle.std.proofs.Common.{ℕ, List, [], ◌∷◌, refl, arith}
 use Rattle.rules.specs.Render.{columns, fields}
-use Rattle.text.proofs.Pasted.{wrote_one, wrote-more, wrote_as}
-use Rattle.theory.proofs.Fields.{fields-length, fields-append}
+use Rattle.text.proofs.Pasted.{wrote_one, wrote-more}
+use Rattle.text.proofs.Numbers.{put_fields_same}
+use Rattle.theory.proofs.Fields.{fields-length}
 use Rattle.theory.proofs.Field.{columns-length}
 use Rattle.listing.proofs.rows.put_first_line.Goals as goal
 
 pub returns : goal.returns
 returns c =
-    let a = c.args in
-    let l : List ℕ = a.f.makespan ∷ a.f.bound ∷ a.f.level ∷ [] in
-    let r : List ℕ = a.f.lifts ∷ a.f.pushes ∷ [] in
-    let w = wrote_one a.out.now a.at (fields l) 18 (fields-length l) (omega arith) c.put_three.ensures in
-    let x = wrote-more (fields r) (a.at + 18) 12 30 w refl refl (fields-length r) (omega arith) c.put_two.ensures in
-    let y =
-    wrote-more (columns 12 a.f.moves) (a.at + 30) 12 42 x refl refl (columns-length 12 a.f.moves) (omega arith)
-    c.put_columns.ensures in
-    (wrote_as
-    (wrote-more (10 ∷ []) (a.at + 42) 1 43 y refl refl refl (omega arith) c.put_end.ensures)
-    (ap (λ (s : List ℕ). s ++ columns 12 a.f.moves ++ (10 ∷ [])) (sym (fields-append l r)))).text
+    let out = c.args.out.now in
+    let b = c.args.p.now.balanced in
+    let z = c.args.p.now.settled in
+    let l : List ℕ = z.makespan ∷ b.bound ∷ b.level ∷ b.lifts ∷ b.pushes ∷ [] in
+    let w = wrote_one out 0 (fields l) 30 (fields-length l) (omega arith) (put_fields_same c.put_fields.ensures) in
+    let x = wrote-more (columns 12 z.moves) 30 12 42 w refl refl (columns-length 12 z.moves) (omega arith) c.put_columns.ensures in
+    (wrote-more (10 ∷ []) 42 1 43 x refl refl refl (omega arith) c.put_end.ensures).text

@@ -1,53 +1,41 @@
-use Prim.Native.Nat.{◌+◌, ◌-◌, ◌/◌}
 use mathlib.Core.Path.{refl, ◌∙◌}
 use native.Mathlib.Omega.{arith}
-use borrow.Author.Tests.{lt-ltb, le-ltb}
-use Rattle.planner.proofs.Seeking.{less-left, start-stays, starts, seeking-first, seeking-next, seeking-end}
+use lib.ListN.{take}
+use Rattle.theory.proofs.Small.{longest-small, makespan-small}
+use Rattle.planner.proofs.Seeking.{halfway-some, halfway-none, less-left, start-stays, starts, seeking-first, seeking-next, seeking-end}
 use Rattle.planner.proofs.balance.balance.Goals as goal
 
-pub loop-s-init : goal.loop-s-init
-loop-s-init c = (omega arith, omega (arith, c.requires.n_in_bounds.3), refl, refl, λ I v p q. seeking-first v _ q)
+pub loop-a-init : goal.loop-a-init
+loop-a-init c =
+    let r = c.requires in
+    let small = makespan-small r.1.reads.small (take c.args.jobs.now.n c.args.start.places) in
+    (omega arith, omega (arith, r.3, small), refl, λ I v p q. seeking-first v _ q)
 
 pub overflow_add-a : goal.overflow_add-a
-overflow_add-a c = omega (arith, c.loop-s.invariant.0, c.loop-s.invariant.1)
+overflow_add-a c =
+    let r = c.requires in
+    omega (arith, (halfway-some c.loop-a.s c.halfway.ensures c.in-Some.is).below, c.loop-a.invariant.1, r.2, longest-small r.1.reads.small)
 
-pub overflow_sub-a : goal.overflow_sub-a
-overflow_sub-a c = omega (arith, c.loop-s-test.true)
+pub loop-a-smaller : goal.loop-a-smaller
+loop-a-smaller c =
+    let s = c.loop-a.s in
+    rw c.learn-s.ensures (less-left s c.in-Some.a c.try_level.result (halfway-some c.loop-a.s c.halfway.ensures c.in-Some.is)).gap
 
-pub overflow_add-a-in-loop-s : goal.overflow_add-a-in-loop-s
-overflow_add-a-in-loop-s c = omega (arith, c.loop-s.invariant.0, c.loop-s.invariant.1, c.requires.n_in_bounds.2)
-
-pub try_level-t-requires : goal.try_level-t-requires
-try_level-t-requires c =
-    let p = c.requires in
-    let k = c.loop-s.invariant in
-    record { standing = (p.standing.0, starts p.standing.1 c.loop-s.s k.2 k.3, omega (arith, p.standing.2)); n_in_bounds = (p.n_in_bounds.0, p.n_in_bounds.1) }
-
-pub learn-s-requires : goal.learn-s-requires
-learn-s-requires c = omega (arith, c.loop-s.invariant.1)
-
-pub loop-s-smaller : goal.loop-s-smaller
-loop-s-smaller c =
-    let s = c.loop-s.s in
-    let u = c.loop-s-test.true in
-    let h = less-left s ((s.failed1 + s.level - 1) / 2) c.try_level-t.result (omega (arith, u)) (omega (arith, u)) in
-    rw c.learn-s.ensures h.2
-
-pub loop-s-preserved : goal.loop-s-preserved
-loop-s-preserved c =
-    let k = c.loop-s in
-    let s = k.s in
-    let u = c.loop-s-test.true in
-    let r = c.try_level-t.result in
-    let h = less-left s ((s.failed1 + s.level - 1) / 2) r (omega (arith, u)) (omega (arith, u)) in
-    let e = start-stays s ((s.failed1 + s.level - 1) / 2) r in
+pub loop-a-preserved : goal.loop-a-preserved
+loop-a-preserved c =
+    let k = c.loop-a in
+    let a = c.in-Some.a in
+    let r = c.try_level.result in
+    let w = halfway-some c.loop-a.s c.halfway.ensures c.in-Some.is in
+    let h = less-left k.s a r w in
     rw c.learn-s.ensures (
-      h.0,
-      omega (arith, h.1, k.invariant.1),
-      e.0 ∙ k.invariant.2,
-      e.1 ∙ k.invariant.3,
-      λ I v p q. seeking-next v s _ r (lt-ltb _ _ u) refl k.invariant.2 (k.invariant.4 I v p q) (c.try_level-t.ensures I (starts v s k.invariant.2 k.invariant.3) (omega (arith, p))),
+      h.ordered,
+      omega (arith, h.level, k.invariant.1),
+      start-stays k.s a r ∙ k.invariant.2,
+      λ I v p q.
+          let t = c.try_level.ensures I (starts v k.s k.invariant.2) (omega (arith, p)) in
+          seeking-next v k.s a r w k.invariant.2 (k.invariant.3 I v p q) t,
     )
 
 pub returns : goal.returns
-returns c = λ I v p q. seeking-end v c.loop-s.s (le-ltb _ _ c.loop-s-test.false) (c.loop-s.invariant.4 I v p q)
+returns c = λ I v p q. seeking-end v c.loop-a.s (halfway-none c.loop-a.s c.halfway.ensures c.in_default.is) (c.loop-a.invariant.3 I v p q)

@@ -5,13 +5,13 @@ use lib.ListN.{take}
 use Rattle.rules.specs.Instance.{Instance}
 use Rattle.rules.specs.Load.{longest, makespan}
 use Rattle.trials.specs.Attempt.{Standing}
-use Rattle.planner.specs.Search.{Seeking}
+use Rattle.planner.specs.Search.{failed1, Seeking}
 use Rattle.planner.proofs.balance.balance.Given as goal
 
-abbrev pub invariant-loop-s : goal.invariant-loop-s
-invariant-loop-s l = (l.s.failed1 ≤ l.s.level) × (l.s.level ≤ 322560) × (l.s.start ≡ l.initial.s.start) × (l.s.standing ≡ l.initial.s.standing)
-    × ((I : Instance) → Standing I l.m l.n l.minutes l.masks l.initial.s.start l.initial.s.standing → l.most ≡ longest I → l.highest ≡ makespan I (take l.n l.initial.s.start)
-    → Seeking I l.m l.n (take l.n l.initial.s.start) l.s)
+abbrev pub invariant-loop-a : goal.invariant-loop-a
+invariant-loop-a l = (failed1 l.s.failed ≤ l.s.level) × (l.s.level ≤ 322560) × (l.s.start ≡ l.initial.s.start)
+    × ((I : Instance) → Standing I l.jobs l.initial.s.start → l.most ≡ longest I → l.highest ≡ makespan I (take l.jobs.n l.initial.s.start.places)
+    → Seeking I l.jobs (take l.jobs.n l.initial.s.start.places) l.s)
 
-abbrev pub decreases-loop-s : goal.decreases-loop-s
-decreases-loop-s l = l.s.level - l.s.failed1
+abbrev pub decreases-loop-a : goal.decreases-loop-a
+decreases-loop-a l = l.s.level - failed1 l.s.failed

@@ -1,14 +1,12 @@
-use mathlib.Core.Path.{◌≡◌, refl}
+use mathlib.Core.Path.{◌≡◌}
 use native.Mathlib.Omega.{arith}
-use Rattle.planner.proofs.SheetArrays.{front-one}
+use lib.ListN.{length}
+use lib.Seq.{length-take-le}
 use borrow.Author.Rules.{rules}
+use Rattle.planner.proofs.Entering.{front-padded}
 use Rattle.planner.proofs.calls.front.Goals as goal
 
-pub loop-b-init : goal.loop-b-init
-loop-b-init c = (omega arith, refl)
-
-pub loop-b-preserved : goal.loop-b-preserved
-loop-b-preserved c = (omega arith, front-one _ _ _ (search rules) (search rules) c.loop-b.invariant.1)
-
 pub returns : goal.returns
-returns c = let e : c.loop-b.b ≡ c.args.n = omega arith in rw e at c.loop-b.invariant.1
+returns c =
+    let long : length c.args.places ≡ 224 = search rules in
+    front-padded 200 c.args.n c.copy_from_slice.ensures.after (length-take-le c.args.n c.args.places (omega (arith, c.requires)))

@@ -7,20 +7,17 @@ use Rattle.planner.proofs.Drawing.{rest-permitted, front-entered, settle-shown}
 use Rattle.planner.proofs.calls.settle.Goals as goal
 
 pub rest-z-requires : goal.rest-z-requires
-rest-z-requires c =
-    let l = c.lay-a.ensures in
-    let k = l.stands in
-    let u = k.reads.most in
-    record { standing = (_, k); n_in_bounds = (omega (arith, u, l.wide.0), omega (arith, u, l.wide.1), omega (arith, k.reads.few, l.wide.3)) }
+rest-z-requires c = let l = c.lay-a.ensures.each _ c.jobs.ensures in (_, l.stands)
 
 pub front-requires : goal.front-requires
 front-requires c =
-    omega (arith, c.batches-batches.ensures, view-batches c.args.sheet c.requires)
+    omega (arith, c.batches.ensures, view-batches c.args.sheet c.requires)
 
 pub returns : goal.returns
 returns c =
     let k = book_of c.args.sheet in
-    let l = c.lay-a.ensures in
+    let l = c.lay-a.ensures.each _ c.jobs.ensures in
     let e = c.rest-z.ensures _ l.stands in
     settle-shown k c.rest-z.result _ l.shown e
-    (c.with_places-after.ensures.0 ∙ front-entered k _ _ c.rest-z.result.places _ (rest-permitted l.stands e) l.stands.reads.jobs c.batches-batches.ensures c.front.ensures)
+    (c.with_places.ensures.0
+    ∙ front-entered k _ _ c.rest-z.result.places _ (rest-permitted l.stands e) l.stands.reads.jobs c.batches.ensures c.front.ensures)

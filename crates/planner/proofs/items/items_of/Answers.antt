@@ -8,12 +8,13 @@ use Rattle.planner.proofs.items.items_of.Goals as goal
 
 pub with_calibrations-requires : goal.with_calibrations-requires
 with_calibrations-requires c =
-    (omega (arith, c.batches-n.ensures, view-batches c.args.sheet c.requires), omega (arith, c.instruments-m.ensures, view-instruments c.args.sheet c.requires))
+    let s = c.args.sheet in
+    (omega (arith, c.batches.ensures, view-batches s c.requires), omega (arith, c.instruments.ensures, view-instruments s c.requires))
 
 pub returns : goal.returns
 returns c =
     let k = book_of c.args.sheet in
     c.with_calibrations.ensures k.batches
-    (batches-laid k.batches (view-batches c.args.sheet c.requires) c.batches-n.ensures c.minutes-lengths.ensures c.enter_minutes.ensures
-    c.places-stands.ensures c.enter.ensures c.eligibility-eligible.ensures c.enter-2.ensures)
-    ∙ calibrations-shown k c.instruments-m.ensures c.calibrations-calibrations.ensures
+    (batches-laid k.batches (view-batches c.args.sheet c.requires) c.batches.ensures (c.copy_from_slice.ensures.after ∙ c.minutes.ensures)
+    (c.copy_from_slice-2.ensures.after ∙ c.places.ensures) (c.copy_from_slice-3.ensures.after ∙ c.eligibility.ensures))
+    ∙ calibrations-shown k c.instruments.ensures c.calibrations.ensures

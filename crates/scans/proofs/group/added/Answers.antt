@@ -1,19 +1,26 @@
 -- By where the place is.
-use mathlib.Core.Path.{sym, ◌∙◌}
-use native.Mathlib.Omega.{arith}
+use Rattle.std.proofs.Common.{◌≡◌, false, arith, sym, ◌∙◌}
+use Rattle.scans.specs.Grouping.{among}
 use Rattle.scans.proofs.Reaching.{among_none, among-past, among_in}
 use Rattle.scans.proofs.group.added.Goals as goal
-
-pub returns-then-p-eq0 : goal.returns-then-p-eq0
-returns-then-p-eq0 c = sym (rw (among_none c.args.g c.args.m c.args.place c.if-p-eq0.true))
-
-pub returns-then-p-m : goal.returns-then-p-m
-returns-then-p-m c = sym (rw (among-past c.args.g c.args.m c.args.place c.if-p-m.true))
+use Rattle.scans.proofs.group.added.Goals.{else-p-ne0-via-then-p-ne0+then-p-m+else-is_in}
+use Rattle.scans.proofs.group.added.Goals.{else-p-ne0-via-then-p-ne0+else-p-m, else-p-ne0-via-else-p-ne0}
 
 pub returns-then-is_in : goal.returns-then-is_in
 returns-then-is_in c =
-    sym (rw (among_in c.args.g c.args.m c.args.place c.is_in.result (omega arith) (omega arith) c.is_in.ensures ∙ c.if-is_in.true))
+    let e = c.from-p.ensures in
+    sym (rw (among_in c.args.g c.args.m c.args.place c.is_in.result (omega arith) (omega arith) (rw e at c.is_in.ensures) ∙ c.if-is_in.true))
 
-pub returns-else-is_in : goal.returns-else-is_in
-returns-else-is_in c =
-    sym (rw (among_in c.args.g c.args.m c.args.place c.is_in.result (omega arith) (omega arith) c.is_in.ensures ∙ c.if-is_in.false))
+pub returns-else-p-ne0 : goal.returns-else-p-ne0
+returns-else-p-ne0 c =
+    let e = c.from-p.ensures in
+    let a = c.args in
+    let off : among a.g a.m a.place ≡ false
+    = elim c.else-p-ne0.branch [
+      | else-p-ne0-via-then-p-ne0+then-p-m+else-is_in w ↦
+          among_in a.g a.m a.place w.is_in.result (omega (arith, w.if-p-ne0.true)) (omega (arith, w.if-p-m.true)) (rw e at w.is_in.ensures)
+          ∙ w.if-is_in.false
+      | else-p-ne0-via-then-p-ne0+else-p-m w ↦ among-past a.g a.m a.place (omega (arith, w.if-p-m.false))
+      | else-p-ne0-via-else-p-ne0 w ↦ among_none a.g a.m a.place (omega (arith, w.if-p-ne0.false))
+    ] in
+    sym (rw off)

@@ -1,53 +1,37 @@
-use Prim.Native.Nat.{ℕ, ◌≤◌, ◌+◌, ◌-◌, ◌*◌}
-use mathlib.Core.Path.{◌≡◌, refl, sym, ap, ◌∙◌}
-use native.Mathlib.Numerals.{add-one}
-use native.Mathlib.Omega.{arith}
-use lib.ListN.{get_or, length-take, length-drop}
-use Rattle.rules.specs.Fold.{pick, sum_to}
-use Rattle.scans.proofs.Within.{counts, skips, confined_to, confined-more, confined-is}
+use Rattle.std.proofs.Common.{ℕ, ◌≡◌, ◌+◌, ◌-◌, ◌*◌, suc, rules, arith, ◌∙◌, Bool}
+use borrow.Author.Tests.{tests}
+use Rattle.std.proofs.lemmas.Iterator.{YieldsList-from_range, YieldsList-from_map}
+use Rattle.std.proofs.lemmas.Iterator.Adapters.{fits_from_length, at_most_from_yields_List, at_most_from_Filter}
+use Rattle.std.proofs.lemmas.Iterator.Consumers.{YieldsList-at, YieldsList-from_filter, sum_by_from_yields_List}
+use Rattle.std.proofs.lemmas.List.FromFn.{length-range_with_len}
+use Rattle.rules.specs.Fold.{at}
+use Rattle.arrays.proofs.Folds.{those, sum-those}
+use Rattle.scans.proofs.Within.{lies_in, marked_minutes, marked-small, marked-confined}
 use Rattle.scans.proofs.group.confined_of.Goals as goal
-use Rattle.scans.proofs.group.confined_of.Goals.{else-lies_within, then-lies_within}
 
-pub loop-b-init : goal.loop-b-init
-unfolding confined_to sum_to
-loop-b-init c = (omega arith, omega arith, λ I m sets list r w e. refl)
-
-pub lies_within-requires : goal.lies_within-requires
-lies_within-requires c =
-    (simp (length-take, length-drop) (omega arith), c.requires.3)
-
-pub overflow_cast-sum : goal.overflow_cast-sum
-overflow_cast-sum c =
-    let short : get_or c.args.minutes.now c.loop-b.b 0 ≤ 65535 = omega (arith, c.type_inv.minutes c.loop-b.b) in
-    omega (arith, short)
-
-pub overflow_add-sum : goal.overflow_add-sum
-overflow_add-sum c =
-    let short : get_or c.args.minutes.now c.loop-b.b 0 ≤ 65535 = omega (arith, c.type_inv.minutes c.loop-b.b) in
-    omega (arith, short)
-
-pub loop-b-preserved : goal.loop-b-preserved
-loop-b-preserved c =
-    let short : get_or c.args.minutes.now c.loop-b.b 0 ≤ 65535 = omega (arith, c.type_inv.minutes c.loop-b.b) in
-    let step : c.if-lies_within.sum
-    ≡ c.loop-b.sum
-    + pick c.lies_within.result (get_or c.args.minutes.now c.loop-b.b 0) 0 = elim c.if-lies_within.branch [ then-lies_within w ↦ w.sum-is ∙ counts _ _ w.if-lies_within.true | else-lies_within w ↦ w.sum-is ∙ skips _ _ w.if-lies_within.false ] in
-    let b = c.loop-b.b in
-    let z : b * 24 + 24 - b * 24 ≡ 24 = omega arith in (
-      omega arith,
-      elim c.if-lies_within.branch [ then-lies_within w ↦ omega (arith, short) | else-lies_within w ↦ omega arith ],
-      λ I m sets list r w e.
-          rw (add-one b)
-          (step
-          ∙ ap (λ (k : ℕ). k + pick c.lies_within.result (get_or c.args.minutes.now b 0) 0) (c.loop-b.invariant.2 I m sets list r w e)
-          ∙ sym (confined-more r _ w list e b c.lies_within.result (omega arith) (rw z at c.lies_within.ensures))),
-    )
-
-pub returns : goal.returns
-returns c =
+pub sum-requires-clause-fits : goal.sum-requires-clause-fits
+sum-requires-clause-fits c =
     let n = c.args.n in
-    let z : c.loop-b.b ≡ n = omega arith in
-    record {
-      upper_bound = omega arith;
-      value = λ I m sets list r w e. c.loop-b.invariant.2 I m sets list r w e ∙ ap (confined_to I list) z ∙ confined-is I list r.jobs;
-    }
+    fits_from_length _ _ 224 _
+    (at_most_from_Filter _ (at_most_from_yields_List (YieldsList-from_range 0 n n (cc) (omega arith)) (omega (arith, length-range_with_len 0 n))))
+    c.map.ensures.closure (omega arith) (λ x r q k. let h = c.type_inv.minutes x in search (rules, tests))
+
+total : (c : goal.After-sum) → c.sum.result ≡ marked_minutes c.args.minutes.now c.args.marks.now c.args.group.now c.args.n
+total c =
+    let n = c.args.n in
+    let p : ℕ → Bool = lies_in c.args.marks.now c.args.group.now in
+    sum_by_from_yields_List (λ x. at c.args.minutes.now (suc x)) (those p n) c.map.result _ c.sum.ensures.ran
+    (YieldsList-from_map _ (λ x. at c.args.minutes.now (suc x))
+    (YieldsList-at c.map.ensures.source
+    (YieldsList-from_filter _ (λ x. p (suc x)) (YieldsList-from_range 0 n n c.filter.ensures.source (omega arith)) c.filter.ensures.closure
+    (λ x b q k. let z : (x + 1) * 24 - x * 24 ≡ 24 = omega arith in search (rules, tests, z))))
+    c.map.ensures.closure (λ x r q k. search (rules, tests)))
+    ∙ sum-those p (λ b. at c.args.minutes.now b) n
+
+pub returns-clause-upper_bound : goal.returns-clause-upper_bound
+returns-clause-upper_bound c =
+    let a = c.args in
+    omega (arith, total c, marked-small a.minutes.now a.marks.now a.group.now a.n c.requires.0 (λ k. omega (arith, c.type_inv.minutes k)))
+
+pub returns-clause-value : goal.returns-clause-value
+returns-clause-value c = λ I m sets list r w e. total c ∙ marked-confined r c.args.marks.now w list e

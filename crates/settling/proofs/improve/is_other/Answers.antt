@@ -1,28 +1,13 @@
--- The place itself is tested first.
-use Prim.Native.Nat.{suc}
-use mathlib.Core.Path.{◌≡◌, refl, sym, ◌∙◌}
-use mathlib.Core.Bool.{Bool, true, false}
-use native.Mathlib.Omega.{arith}
-use borrow.Author.Tests.{eq-eqb, ne_eqb}
+use mathlib.Core.Path.{refl}
+use native.Mathlib.Numerals.{add-one}
 use Rattle.rules.specs.Fold.{◌and◌}
-use Rattle.arrays.specs.Sets.{has}
 use Rattle.settling.specs.Settling.{other}
-use Rattle.theory.proofs.Logic.{and-no-right}
 use Rattle.settling.proofs.improve.is_other.Goals as goal
 
-and-true : (t : Bool) → t ≡ t and true
-unfolding ◌and◌
-and-true true = refl
-and-true false = refl
+pub returns-then-is_in : goal.returns-then-is_in
+unfolding other ◌and◌
+returns-then-is_in c = rw (← c.is_in.ensures, c.if-is_in.true, c.from.ensures, add-one) refl
 
-pub returns-then-i-place : goal.returns-then-i-place
-unfolding other
-returns-then-i-place c =
-    let a = c.args in
-    sym (and-no-right (has a.mask (suc a.i)) _ (rw (eq-eqb (suc a.i) a.place (omega arith))))
-
-pub returns : goal.returns
-unfolding other
-returns c =
-    let a = c.args in
-    c.is_in.ensures ∙ rw (ne_eqb (suc a.i) a.place (λ q. c.if-i-place.false (omega arith))) (and-true _)
+pub returns-else-is_in : goal.returns-else-is_in
+unfolding other ◌and◌
+returns-else-is_in c = rw (← c.is_in.ensures, c.if-is_in.false) refl

@@ -1,42 +1,35 @@
-use Prim.Native.Nat.{ℕ}
-use mathlib.Core.Path.{◌≡◌, refl, sym, ap, ◌∙◌}
-use native.Mathlib.Omega.{arith}
+use mathlib.Core.Path.{refl, sym, ap, ◌∙◌}
+use borrow.Author.Rules.{rules}
+use borrow.Author.Tests.{tests}
+use Prim.Native.Nat.{ℕ, suc}
 use lib.ListN.{take}
-use Rattle.rules.specs.Fold.{greatest_to}
+use Rattle.rules.specs.Fold.{at, greatest_to}
 use Rattle.rules.specs.Instance.{minutes_of}
 use Rattle.rules.specs.Load.{improves}
 use Rattle.rules.specs.Settle.{mover}
-use Rattle.arrays.proofs.Turns.{greatest-le, greatest-same, greatest-more}
+use Rattle.arrays.specs.Found.{found}
+use Rattle.std.specs.Ordering.{nat_cmp}
+use Rattle.std.proofs.lemmas.Iterator.{serves_from_Range}
+use Rattle.std.proofs.lemmas.Iterator.Consumers.{YieldsList-from_filter, YieldsList-at}
 use Rattle.settling.proofs.settle.mover.Goals as goal
-use Rattle.settling.proofs.settle.mover.Goals.{else-improves, then-improves}
+use Rattle.settling.specs.Settling.{placed}
+use Rattle.settling.proofs.Picks.{min_is_reduce}
+use Rattle.settling.proofs.Ranges.{below, greatest_range, greatest-ext}
 
-pub loop-b-init : goal.loop-b-init
-unfolding greatest_to
-loop-b-init c = (omega arith, λ I r p. refl)
-
-pub improves-requires : goal.improves-requires
-improves-requires c = (_, c.requires, c.loop-b-test.true)
-
-pub longer-found-requires : goal.longer-found-requires
-longer-found-requires c =
-    let k = c.requires in
-    (greatest-le _ _ _ _ (c.loop-b.invariant.1 k.said.I k.said.reads k.placing), omega (arith, k.said.timed))
-
-pub loop-b-preserved : goal.loop-b-preserved
-loop-b-preserved c =
-    let u = c.loop-b-test.true in (
-      omega arith,
-      λ I r p.
-          let e = c.loop-b.invariant.1 I r p in
-          let t = sym (c.improves.ensures I _ r p u) in
-          elim c.if-improves.branch [ then-improves w ↦ greatest-more _ _ _ _ _ (λ i l h. r.minutes i l (omega (arith, u))) e (t ∙ w.if-improves.true) _ (w.found-is ∙ w.longer-found.ensures) | else-improves w ↦ w.found-is ∙ greatest-same _ _ _ _ e (t ∙ w.if-improves.false) ],
-    )
+pub min_by_key-requires-clause-can : goal.min_by_key-requires-clause-can
+min_by_key-requires-clause-can c = (tt, tt, serves_from_Range (λ x q h. search rules) (λ x l u. let k = c.requires in search rules))
 
 pub returns : goal.returns
 unfolding mover
 returns c =
-    let a = c.args in
-    let e : c.loop-b.b ≡ a.n = omega arith in
-    λ I r p.
-    c.loop-b.invariant.1 I r p
-    ∙ ap (λ (k : ℕ). greatest_to k (λ j. improves I (take a.n a.places.now) j) (λ j. minutes_of I j)) (e ∙ sym r.jobs)
+    let j = c.args.jobs.now in
+    let p = placed c.args.places.now c.args.loads.now in
+    λ I r d.
+    let passes = improves I (take j.n p.places) in
+    min_is_reduce (λ a b. nat_cmp b.0 a.0) (λ b. record { 0 = at j.minutes.now (suc b) }) (λ x k q h. search (rules, tests)) c.filter.result
+    c.min_by_key.result c.min_by_key.ensures.ran
+    (YieldsList-from_filter _ (λ b. passes (suc b)) (YieldsList-at c.filter.ensures.source (below j.n refl)) c.filter.ensures.closure
+    (λ x t q h. search (rules, tests)))
+    ∙ greatest_range passes (at j.minutes.now) j.n
+    ∙ ap found
+    (greatest-ext j.n passes (at j.minutes.now) (minutes_of I) r.minutes ∙ ap (λ (k : ℕ). greatest_to k passes (minutes_of I)) (sym r.jobs))

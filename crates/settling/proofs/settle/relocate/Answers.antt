@@ -1,78 +1,30 @@
 -- One move of the rules over arrays.
-use Prim.Native.Nat.{◌-◌}
+use mathlib.Core.Path.{sym, ◌∙◌}
 use native.Mathlib.Omega.{arith}
-use lib.ListN.{get_or}
-use Rattle.settling.proofs.Placing.{InRange, in-range}
-use Rattle.settling.proofs.Relocate.{Ready, due_in, ready, relocated}
+use Rattle.settling.proofs.Relocate.{due_range, goes_some, goes_in, loaded, relocated}
+use Rattle.settling.proofs.Ranges.{some_found}
 use Rattle.settling.proofs.settle.relocate.Goals as goal
 
-pub bounds-places-k : goal.bounds-places-k
-bounds-places-k c =
-    let known : InRange c.args.m c.args.minutes.now c.args.masks.now c.args.places.now c.args.loads.now c.args.k = let k = c.requires.known in
-    in-range k c.args.k (due_in k.said.reads k.placing c.args.k c.requires.next) in
-    let k = known in omega arith
+pub least_other-requires : goal.least_other-requires
+least_other-requires c = let k = due_range c.requires in omega arith
 
-pub offset_bounds-masks-k : goal.offset_bounds-masks-k
-offset_bounds-masks-k c =
-    let known : InRange c.args.m c.args.minutes.now c.args.masks.now c.args.places.now c.args.loads.now c.args.k = let k = c.requires.known in
-    in-range k c.args.k (due_in k.said.reads k.placing c.args.k c.requires.next) in
-    let k = known in omega arith
-
-pub bounds-masks-k : goal.bounds-masks-k
-bounds-masks-k c =
-    let known : InRange c.args.m c.args.minutes.now c.args.masks.now c.args.places.now c.args.loads.now c.args.k = let k = c.requires.known in
-    in-range k c.args.k (due_in k.said.reads k.placing c.args.k c.requires.next) in
-    let k = known in omega arith
-
-pub overflow_sub-j : goal.overflow_sub-j
-overflow_sub-j c =
-    let ready_at : Ready c.args.m c.args.minutes.now c.args.places.now c.args.loads.now c.args.k c.least_other-j.result = let k = c.requires.known in
-    ready k.said.reads k.placing c.args.k c.requires.next c.least_other-j.result c.least_other-j.ensures in
-    let g = ready_at in omega arith
-
-pub overflow_cast-i : goal.overflow_cast-i
-overflow_cast-i c =
-    let known : InRange c.args.m c.args.minutes.now c.args.masks.now c.args.places.now c.args.loads.now c.args.k = let k = c.requires.known in
-    in-range k c.args.k (due_in k.said.reads k.placing c.args.k c.requires.next) in
-    let k = known in omega arith
-
-pub overflow_sub-i : goal.overflow_sub-i
-overflow_sub-i c =
-    let known : InRange c.args.m c.args.minutes.now c.args.masks.now c.args.places.now c.args.loads.now c.args.k = let k = c.requires.known in
-    in-range k c.args.k (due_in k.said.reads k.placing c.args.k c.requires.next) in
-    let k = known in omega arith
-
-pub offset_bounds-minutes-k : goal.offset_bounds-minutes-k
-offset_bounds-minutes-k c =
-    let known : InRange c.args.m c.args.minutes.now c.args.masks.now c.args.places.now c.args.loads.now c.args.k = let k = c.requires.known in
-    in-range k c.args.k (due_in k.said.reads k.placing c.args.k c.requires.next) in
-    let k = known in omega arith
-
-pub bounds-minutes-k : goal.bounds-minutes-k
-bounds-minutes-k c =
-    let known : InRange c.args.m c.args.minutes.now c.args.masks.now c.args.places.now c.args.loads.now c.args.k = let k = c.requires.known in
-    in-range k c.args.k (due_in k.said.reads k.placing c.args.k c.requires.next) in
-    let k = known in omega arith
-
-pub overflow_cast-w : goal.overflow_cast-w
-overflow_cast-w c =
-    let known : InRange c.args.m c.args.minutes.now c.args.masks.now c.args.places.now c.args.loads.now c.args.k = let k = c.requires.known in
-    in-range k c.args.k (due_in k.said.reads k.placing c.args.k c.requires.next) in
-    let k = known in omega arith
+pub unwrap-j-requires : goal.unwrap-j-requires
+unwrap-j-requires c =
+    let d = c.requires.known in
+    rw c.least_other.ensures (some_found _ (goes_some d.said.reads d.placing c.args.k c.requires.next))
 
 pub shift-requires : goal.shift-requires
 shift-requires c =
-    let known : InRange c.args.m c.args.minutes.now c.args.masks.now c.args.places.now c.args.loads.now c.args.k = let k = c.requires.known in
-    in-range k c.args.k (due_in k.said.reads k.placing c.args.k c.requires.next) in
-    let ready_at : Ready c.args.m c.args.minutes.now c.args.places.now c.args.loads.now c.args.k c.least_other-j.result = let k = c.requires.known in
-    ready k.said.reads k.placing c.args.k c.requires.next c.least_other-j.result c.least_other-j.ensures in
-    let k = known in
-    let g = ready_at in
-    let s = k.small (get_or c.args.places.now c.args.k 0 - 1) (omega arith) in
-    (omega arith, omega arith, omega arith, omega arith, g.has, omega arith)
+    let d = c.requires.known in
+    let k = due_range c.requires in
+    let g = goes_in d.said.reads d.placing c.args.k c.requires.next c.unwrap-j.result (sym c.unwrap-j.ensures ∙ c.least_other.ensures) in
+    record {
+      on_a_machine = (omega arith, omega arith, omega arith, omega arith);
+      loaded = loaded d.said.reads d.placing c.args.k c.requires.next;
+      room = omega (arith, k.small c.unwrap-j.result g);
+    }
 
 pub returns : goal.returns
-returns c =
-    let s = c.shift.ensures in
-    let l = c.least_other-j in
-    λ I n r p e. rw (s.places_after, s.loads_after) (relocated r p _ e l.result l.ensures)
+returns c = λ I r d e.
+    relocated r d c.args.k e c.unwrap-j.result (sym c.unwrap-j.ensures ∙ c.least_other.ensures) c.shift.new.placement
+    c.shift.ensures.places_after c.shift.ensures.loads_after

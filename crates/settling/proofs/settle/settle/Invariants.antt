@@ -1,17 +1,14 @@
 -- The invariant: the moves that are left from here end where all moves from the start do. The measure is the sum of squared loads.
 use Prim.Native.Nat.{◌*◌}
-use mathlib.Core.Path.{◌≡◌}
-use lib.ListN.{length}
 use Rattle.rules.specs.Fold.{at, sum_to}
 use Rattle.rules.specs.Instance.{Instance}
-use Rattle.arrays.specs.Reads.{Reads}
+use Rattle.arrays.specs.Jobs.{Says}
 use Rattle.settling.specs.Settling.{Placing}
 use Rattle.settling.proofs.Settles.{Run}
 use Rattle.settling.proofs.settle.settle.Given as goal
 
-abbrev pub invariant-loop-next : goal.invariant-loop-next
-invariant-loop-next l = (length l.x ≡ 224) × (length l.l ≡ 24)
-    × ((I : Instance) → Reads I l.m l.n l.minutes l.masks → Placing I l.m l.n l.initial.x l.initial.l → Run I l.m l.n l.initial.x l.x l.l l.moves l.next)
+abbrev pub invariant-loop-k : goal.invariant-loop-k
+invariant-loop-k l = (I : Instance) → Says I l.jobs → Placing I l.jobs l.initial.end → Run I l.jobs l.initial.end l.end l.moves
 
-abbrev pub decreases-loop-next : goal.decreases-loop-next
-decreases-loop-next l = sum_to l.m (λ i. at l.l i * at l.l i)
+abbrev pub decreases-loop-k : goal.decreases-loop-k
+decreases-loop-k l = sum_to l.jobs.m (λ i. at l.end.loads i * at l.end.loads i)

@@ -8,12 +8,12 @@ use Rattle.sheet.proofs.Sheet.add.Goals as goal
 
 pub returns-then-self-ge-BATCHES : goal.returns-then-self-ge-BATCHES
 returns-then-self-ge-BATCHES c =
-    edit-answered (add-full c.args.self c.requires c.args.minutes c.args.list.now c.if-self-ge-BATCHES.true)
+    edit-answered (add-full c.args.self.now c.requires c.args.minutes c.args.list.now c.if-self-ge-BATCHES.true)
 
-pub with_row-requires : goal.with_row-requires
-with_row-requires c =
-    record { fact_1 = c.requires; fact_2 = omega (arith, c.if-self-ge-BATCHES.false, book-size c.args.self) }
+pub with_row-requires-clause-fact_2 : goal.with_row-requires-clause-fact_2
+with_row-requires-clause-fact_2 c = omega (arith, c.if-self-ge-BATCHES.false, book-size c.args.self.now)
 
 pub returns : goal.returns
 returns c =
-    edit-answered (c.with_row.ensures ∙ add_done c.args.self c.requires c.args.minutes c.args.list.now c.if-self-ge-BATCHES.false)
+    edit-answered (c.with_row.ensures
+    ∙ add_done c.args.self.now c.requires c.args.minutes c.args.list.now c.if-self-ge-BATCHES.false)

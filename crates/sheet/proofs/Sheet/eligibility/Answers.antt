@@ -1,14 +1,14 @@
-use Prim.Native.Nat.{◌*◌, ◌≤◌, ◌<◌}
+use Prim.Native.Nat.{◌*◌}
 use mathlib.Core.Path.{◌≡◌, ◌∙◌}
 use native.Mathlib.Omega.{arith}
-use lib.ListN.{length, get_or}
+use lib.ListN.{length}
 use borrow.Author.Rules.{rules}
 use borrow.Author.Tests.{eq-eqb, ne_eqb}
 use Rattle.sheet.proofs.SoundArrays.{few-batches, list-size}
 use Rattle.sheet.proofs.Marking.{marked-one}
 use Rattle.sheet.proofs.Marks.{rows_start, rows_next, rows_step, rows_end, entry-range, place-range}
 use Rattle.sheet.proofs.Sheet.eligibility.Goals as goal
-use Rattle.sheet.proofs.Sheet.eligibility.Goals.{else-started-i-eq0, then-started-i-eq0}
+use Rattle.sheet.proofs.Sheet.eligibility.Goals.{else-self-i-eq0, then-self-i-eq0}
 
 pub loop-i-init : goal.loop-i-init
 loop-i-init c = rows_start (few-batches c.args.self c.requires)
@@ -18,40 +18,34 @@ mark_row-requires c =
     let e = c.loop-i.invariant in
     let h = c.loop-i-test.true in
     let l : length c.args.self.lists ≡ 4800 = search rules in
-    let w = (list-size c.args.self c.requires c.loop-i.i h).1 in record { fact_1 = omega (arith, e.long); fact_2 = rows_next e h; fact_3 = omega arith; fact_4 = λ k g. entry-range c.args.self c.requires c.loop-i.i k h g (omega arith) }
+    let w = (list-size c.args.self c.requires c.loop-i.i h).1 in
+    record {
+      fact_1 = omega (arith, e.long);
+      fact_2 = rows_next e h;
+      fact_3 = omega arith;
+      fact_4 = λ k g. entry-range c.args.self c.requires c.loop-i.i k h g (omega arith);
+    }
 
 pub overflow_sub-marks : goal.overflow_sub-marks
-overflow_sub-marks c =
-    let place : let a = c.args in
-    (0 < get_or a.self.places c.loop-i.i 0) × (get_or a.self.places c.loop-i.i 0 ≤ 24) = place-range c.args.self c.requires c.loop-i.i c.loop-i-test.true in
-    place.0
-
-pub overflow_add-marks : goal.overflow_add-marks
-overflow_add-marks c =
-    let place : let a = c.args in
-    (0 < get_or a.self.places c.loop-i.i 0) × (get_or a.self.places c.loop-i.i 0 ≤ 24) = place-range c.args.self c.requires c.loop-i.i c.loop-i-test.true in
-    omega (arith, place.1, c.loop-i.invariant.room)
+overflow_sub-marks c = (place-range c.args.self c.requires c.loop-i.i c.loop-i-test.true).0
 
 pub bounds-marks-i : goal.bounds-marks-i
 bounds-marks-i c =
-    let place : let a = c.args in
-    (0 < get_or a.self.places c.loop-i.i 0) × (get_or a.self.places c.loop-i.i 0 ≤ 24) = place-range c.args.self c.requires c.loop-i.i c.loop-i-test.true in
-    omega (arith, place.0, place.1, c.loop-i.invariant.room)
+    let p = place-range c.args.self c.requires c.loop-i.i c.loop-i-test.true in
+    omega (arith, p.0, p.1, c.loop-i.invariant.room)
 
 pub loop-i-preserved : goal.loop-i-preserved
 loop-i-preserved c =
-    let place : let a = c.args in
-    (0 < get_or a.self.places c.loop-i.i 0) × (get_or a.self.places c.loop-i.i 0 ≤ 24) = place-range c.args.self c.requires c.loop-i.i c.loop-i-test.true in
+    let p = place-range c.args.self c.requires c.loop-i.i c.loop-i-test.true in
     let e = c.loop-i.invariant in
     let h = c.loop-i-test.true in
     let places = c.args.self.places in
     let l : length places ≡ 200 = search rules in
-    elim c.if-started-i-eq0.branch [
-      | then-started-i-eq0 w ↦ rows_step e _ _ h (w.marks-is ∙ w.mark_row.ensures) (rw (eq-eqb _ 0 w.if-started-i-eq0.true))
-      | else-started-i-eq0 w ↦ rows_step e _ _ h
-          (w.marks-is ∙ marked-one c.loop-i.marks (c.loop-i.i * 24) places c.loop-i.i (rows_next e h) (omega (arith, e.long, e.room)) (omega (arith, e.room))
-          place)
-          (rw (ne_eqb _ 0 w.if-started-i-eq0.false))
+    elim c.if-self-i-eq0.branch [
+      | then-self-i-eq0 w ↦ rows_step e _ _ h (w.marks-is ∙ w.mark_row.ensures) (rw (eq-eqb _ 0 w.if-self-i-eq0.true))
+      | else-self-i-eq0 w ↦ rows_step e _ _ h
+          (w.marks-is ∙ marked-one c.loop-i.marks (c.loop-i.i * 24) places c.loop-i.i (rows_next e h) (omega (arith, e.long, e.room)) (omega (arith, e.room)) p)
+          (rw (ne_eqb _ 0 w.if-self-i-eq0.false))
     ]
 
 pub returns : goal.returns

@@ -1,36 +1,21 @@
 -- Refused, or the batch is started.
-use Prim.Native.Nat.{◌-◌, ◌<◌}
-use native.Mathlib.Omega.{arith}
-use mathlib.Core.Path.{◌≡◌}
-use lib.ListN.{length}
-use borrow.Author.Rules.{rules}
 use Rattle.sheet.proofs.Answered.{edit-answered}
-use Rattle.sheet.proofs.SoundArrays.{few-batches, index}
-use Rattle.sheet.proofs.Edits.{Free, is_free, start_none, start-done}
+use Rattle.sheet.proofs.SoundArrays.{few-batches}
+use Rattle.sheet.proofs.Edits.{is_free, start_none, start-done}
+use Rattle.std.proofs.lemmas.Result.{err_from_is_err_and}
 use Rattle.sheet.proofs.Sheet.start.Goals as goal
 
-pub refusal_of-e-requires : goal.refusal_of-e-requires
-refusal_of-e-requires c =
-    let h : length c.args.self.started ≡ 200 = search rules in
-    omega (arith, few-batches c.args.self c.requires)
+pub waiting-requires : goal.waiting-requires
+waiting-requires c = few-batches c.args.self.now c.requires
 
-pub returns-in_default : goal.returns-in_default
-returns-in_default c =
-    edit-answered (start_none c.args.self c.requires c.args.batch c.refusal_of-e.ensures c.in_default.not-Nothing)
+pub returns-in_err-at : goal.returns-in_err-at
+returns-in_err-at c =
+    let p = err_from_is_err_and c.from_residual.result c.from_residual.ensures.1 in
+    rw (p.1, p.2) (edit-answered (start_none c.args.self.now c.requires c.args.batch c.in_err-at.ensures))
 
-pub overflow_sub-self : goal.overflow_sub-self
-overflow_sub-self c =
-    let free : Free c.args.self c.args.batch = is_free c.args.self c.requires c.args.batch c.refusal_of-e.ensures c.in-Nothing.is in
-    let at : (0 < c.args.batch) × (c.args.batch - 1 < c.args.self.n) × (c.args.batch - 1 < 200) = index c.args.self c.requires c.args.batch free.number in
-    at.0
-
-pub bounds-self-b : goal.bounds-self-b
-bounds-self-b c =
-    let free : Free c.args.self c.args.batch = is_free c.args.self c.requires c.args.batch c.refusal_of-e.ensures c.in-Nothing.is in
-    let at : (0 < c.args.batch) × (c.args.batch - 1 < c.args.self.n) × (c.args.batch - 1 < 200) = index c.args.self c.requires c.args.batch free.number in
-    at.2
+pub bounds-self-at : goal.bounds-self-at
+bounds-self-at c = (is_free c.args.self.now c.requires c.args.batch c.in_ok-at.ensures).small
 
 pub returns : goal.returns
 returns c =
-    let free : Free c.args.self c.args.batch = is_free c.args.self c.requires c.args.batch c.refusal_of-e.ensures c.in-Nothing.is in
-    edit-answered (start-done c.args.self c.requires c.args.batch free)
+    edit-answered (start-done c.args.self.now c.requires c.args.batch (is_free c.args.self.now c.requires c.args.batch c.in_ok-at.ensures))

@@ -6,7 +6,7 @@ use Rattle.theory.proofs.Enter.{entered-start}
 use Rattle.sheet.proofs.Placed.{kept_step, kept-skip, kept-end, kept-sound}
 use borrow.Author.Rules.{rules}
 use Rattle.sheet.proofs.Sheet.with_places.Goals as goal
-use Rattle.sheet.proofs.Sheet.with_places.Goals.{else-started-b-eq0, then-started-b-eq0}
+use Rattle.sheet.proofs.Sheet.with_places.Goals.{else-self-b-eq0, then-self-b-eq0}
 
 pub loop-b-init : goal.loop-b-init
 loop-b-init c = (few-batches c.args.self c.requires, entered-start)
@@ -24,7 +24,7 @@ loop-b-preserved c =
     let i = c.loop-b.invariant in
     let h = c.loop-b-test.true in (
       i.0,
-      elim c.if-started-b-eq0.branch [ then-started-b-eq0 w ↦ rw w.places-is (kept_step c.args.self c.args.x w.kept_in.result i.1 (omega (arith, i.0)) h (waits-at c.args.self c.requires _ w.if-started-b-eq0.true) w.kept_in.ensures) | else-started-b-eq0 w ↦ rw w.places-is (kept-skip c.args.self c.args.x i.1 (omega (arith, i.0)) h (starts-at c.args.self c.requires _ w.if-started-b-eq0.false)) ],
+      elim c.if-self-b-eq0.branch [ then-self-b-eq0 w ↦ rw w.places-is (kept_step c.args.self c.args.x w.kept_in.result i.1 (omega (arith, i.0)) h (waits-at c.args.self c.requires _ w.if-self-b-eq0.true) w.kept_in.ensures) | else-self-b-eq0 w ↦ rw w.places-is (kept-skip c.args.self c.args.x i.1 (omega (arith, i.0)) h (starts-at c.args.self c.requires _ w.if-self-b-eq0.false)) ],
     )
 
 pub returns : goal.returns

@@ -1,12 +1,9 @@
 -- The invariant: the first b batches have their places.
-use Prim.Native.Nat.{◌-◌, ◌≤◌}
+use Prim.Native.Nat.{◌≤◌}
 use Rattle.sheet.specs.Represent.{book_of}
 use Rattle.sheet.specs.View.{kept_places}
 use Rattle.theory.proofs.Enter.{Entered}
 use Rattle.sheet.proofs.Sheet.with_places.Given as goal
 
 abbrev pub invariant-loop-b : goal.invariant-loop-b
-invariant-loop-b l = (l.n ≤ 200) × Entered l.initial.places 0 (kept_places (book_of l.self) l.x) l.n l.places l.b
-
-abbrev pub decreases-loop-b : goal.decreases-loop-b
-decreases-loop-b l = l.n - l.b
+invariant-loop-b l = (l.self.n ≤ 200) × Entered l.initial.places 0 (kept_places (book_of l.self) l.x) l.self.n l.places l.b

@@ -1,27 +1,18 @@
-use native.Mathlib.Omega.{arith}
-use Rattle.sheet.proofs.Marking.{marked_start, marked_step, marked-end}
+use Rattle.std.proofs.Common.{◌≡◌, ◌+◌, ◌-◌, ◌<◌, ap, ◌∙◌, get_or, length, take, drop, arith, length-take-le, length-drop}
+use lib.Seq.{get_or-take, get_or-drop}
+use Rattle.sheet.proofs.Marking.{marked_start, marked_step}
 use Rattle.sheet.proofs.view.mark_row.Goals as goal
 
-pub loop-j-init : goal.loop-j-init
-loop-j-init c = marked_start c.requires.fact_2
+pub loop-x-init : goal.loop-x-init
+loop-x-init c = marked_start c.requires.fact_2
 
-pub overflow_cast-x : goal.overflow_cast-x
-overflow_cast-x c = let r = c.requires.fact_4 c.loop-j.j c.loop-j-test.true in omega (arith, r.1)
-
-pub overflow_sub-marks : goal.overflow_sub-marks
-overflow_sub-marks c = let r = c.requires.fact_4 c.loop-j.j c.loop-j-test.true in omega (arith, r.0)
-
-pub overflow_add-marks : goal.overflow_add-marks
-overflow_add-marks c = let r = c.requires.fact_4 c.loop-j.j c.loop-j-test.true in omega (arith, r.1, c.requires.fact_1)
-
-pub bounds-marks-at : goal.bounds-marks-at
-bounds-marks-at c = let r = c.requires.fact_4 c.loop-j.j c.loop-j-test.true in omega (arith, r.1, c.requires.fact_1)
-
-pub loop-j-preserved : goal.loop-j-preserved
-loop-j-preserved c =
-    marked_step c.loop-j.invariant
-    c.requires.fact_1 c.requires.fact_3 c.loop-j-test.true
-    (c.requires.fact_4 c.loop-j.j c.loop-j-test.true)
-
-pub returns : goal.returns
-returns c = marked-end c.loop-j.invariant c.loop-j-test.false
+pub loop-x-preserved : goal.loop-x-preserved
+loop-x-preserved c =
+    let a = c.args in
+    let i = c.loop-x.x-index in
+    let e : a.at + a.count - a.at ≡ a.count = omega arith in
+    let n : length (take (a.at + a.count - a.at) (drop a.at a.lists.now)) ≡ a.count = ap (λ k. length (take k (drop a.at a.lists.now))) e ∙ length-take-le a.count (drop a.at a.lists.now) (omega (arith, length-drop a.at a.lists.now, c.requires.fact_3)) in
+    let h : i < a.count = omega (arith, c.loop-x-test.true) in
+    let x : get_or (take (a.at + a.count - a.at) (drop a.at a.lists.now)) i 0 ≡ get_or a.lists.now (a.at + i) 0 =
+    ap (λ k. get_or (take k (drop a.at a.lists.now)) i 0) e ∙ get_or-take a.count (drop a.at a.lists.now) i 0 h ∙ get_or-drop a.at a.lists.now i 0 in
+    rw x (marked_step c.loop-x.invariant c.requires.fact_1 c.requires.fact_3 h (c.requires.fact_4 i h))

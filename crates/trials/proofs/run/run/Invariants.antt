@@ -6,8 +6,8 @@ use Rattle.trials.specs.Track.{Starts}
 use Rattle.trials.proofs.Running.{Underway, left}
 use Rattle.trials.proofs.run.run.Given as goal
 
-abbrev pub invariant-loop-s : goal.invariant-loop-s
-invariant-loop-s l = (I : Instance) (a : Limits) → Starts I a l.m l.n l.minutes l.masks l.low l.high l.initial.s.places l.initial.s.loads → Underway I a l.masks (take l.n l.initial.s.places) l.s
+abbrev pub invariant-loop-next : goal.invariant-loop-next
+invariant-loop-next l = (I : Instance) (a : Limits) → Starts I a l.jobs l.bounds l.fn.start → Underway I a l.jobs (take l.jobs.n l.fn.start.places) l.s
 
-abbrev pub decreases-loop-s : goal.decreases-loop-s
-decreases-loop-s l = left l.s
+abbrev pub decreases-loop-next : goal.decreases-loop-next
+decreases-loop-next l = left l.s

@@ -1,50 +1,21 @@
 -- A trial at the limits of its level, and what its end says.
-use Prim.Native.Nat.{◌≤◌}
-use mathlib.Core.Path.{◌≡◌, sym, ◌∙◌}
-use native.Mathlib.Omega.{arith}
-use lib.ListN.{length}
+use mathlib.Core.Path.{refl}
 use borrow.Author.Rules.{rules}
-use Rattle.theory.proofs.Agree.{first-le}
-use Rattle.trials.proofs.Verdict.{starts, tries-pass, tries-fail}
+use Rattle.trials.proofs.Verdict.{starts, tries-pass, over-in, tries-fail}
 use Rattle.trials.proofs.trial.try_level.Goals as goal
 
-pub run-s-requires : goal.run-s-requires
-run-s-requires c =
-    let few : c.args.m ≤ 24 = c.requires.standing.1.reads.few in
-    let w = c.requires.standing.1 in
-    record { starts = (c.requires.standing.0, _, starts w _ _ c.requires.standing.2); n_in_bounds = (c.requires.n_in_bounds.0, c.requires.n_in_bounds.1, few, few) }
+pub run-s-requires-clause-starts : goal.run-s-requires-clause-starts
+run-s-requires-clause-starts c = let (I, w, e) = c.requires in (I, _, starts w _ _ e _ refl refl)
 
-pub first_overloaded-over-requires : goal.first_overloaded-over-requires
-first_overloaded-over-requires c =
-    let few : c.args.m ≤ 24 = c.requires.standing.1.reads.few in
-    let loads-long : length c.run-s.result.loads ≡ 24 = search rules in
-    (omega (arith, loads-long, few), few)
+pub group_of-requires : goal.group_of-requires
+group_of-requires c =
+    let (I, w, e) = c.requires in
+    (search rules, search rules, search rules, over-in w _ _ e (c.run-s.ensures I _ (starts w _ _ e _ refl refl)) _ c.in-Some.ensures)
 
-pub returns-then-over-eq0 : goal.returns-then-over-eq0
-returns-then-over-eq0 c =
-    λ I w e. tries-pass w _ _ e (c.run-s.ensures I _ (starts w _ _ e)) (sym c.first_overloaded-over.ensures ∙ c.if-over-eq0.true)
+pub returns-in-Some : goal.returns-in-Some
+returns-in-Some c = λ I w e.
+    let d = c.run-s.ensures I _ (starts w _ _ e _ refl refl) in
+    tries-fail w _ _ e d _ c.in-Some.ensures _ (c.group_of.ensures I _ w.reads)
 
-pub group_of-group-requires : goal.group_of-group-requires
-group_of-group-requires c =
-    let few : c.args.m ≤ 24 = c.requires.standing.1.reads.few in
-    let loads-long : length c.run-s.result.loads ≡ 24 = search rules in
-    let places-long : length c.run-s.result.places ≡ 224 = search rules in
-    let some-over : 1 ≤ c.first_overloaded-over.result = omega (arith, c.if-over-eq0.false) in
-    let over-in : c.first_overloaded-over.result ≤ c.args.m = first-le _ _ _ c.first_overloaded-over.ensures in
-    let most = c.requires.standing.1.reads.most in (
-      few,
-      omega (arith, loads-long, few),
-      omega (arith, places-long, most),
-      c.requires.n_in_bounds.1,
-      few,
-      some-over,
-      over-in,
-    )
-
-pub returns : goal.returns
-returns c =
-    let some-over : 1 ≤ c.first_overloaded-over.result = omega (arith, c.if-over-eq0.false) in
-    let over-in : c.first_overloaded-over.result ≤ c.args.m = first-le _ _ _ c.first_overloaded-over.ensures in
-    λ I w e.
-    tries-fail w _ _ e (c.run-s.ensures I _ (starts w _ _ e)) _ _ c.first_overloaded-over.ensures some-over over-in
-    (c.group_of-group.ensures I _ w.reads)
+pub returns-in-None : goal.returns-in-None
+returns-in-None c = λ I w e. tries-pass w _ _ e (c.run-s.ensures I _ (starts w _ _ e _ refl refl)) c.in-None.ensures

@@ -1,43 +1,38 @@
-use Prim.Native.Nat.{◌<◌}
-use mathlib.Core.Path.{ap, sym}
+-- By whether a row is left, and whether it is of the form.
+use Prim.Native.Nat.{◌+◌}
+use mathlib.Core.Path.{◌≡◌, ap, sym}
 use native.Mathlib.Omega.{arith}
-use borrow.Author.Tests.{not-true, not-false}
-use lib.ListN.{length}
+use borrow.Author.Tests.{eqb-true}
+use Rattle.std.proofs.lemmas.Result.{err_from_is_err_and}
 use Rattle.worklist.specs.Read.{rows_as}
-use Rattle.worklist.proofs.Passing.{empty-file, none_yet, all_read, then-faulty, then-good, further}
+use Rattle.worklist.proofs.Passing.{empty-file, none_yet, then-faulty, then-good, shorter, not-empty}
 use Rattle.worklist.proofs.row.rows_in.Goals as goal
 
-pub returns-then-s-eq0 : goal.returns-then-s-eq0
-returns-then-s-eq0 c = sym (ap rows_as (empty-file c.args.s.now c.if-s-eq0.true))
+pub returns-then-is_empty : goal.returns-then-is_empty
+returns-then-is_empty c = sym (ap rows_as (empty-file c.args.s.now (eqb-true _ 0 (sym c.if-is_empty.ensures))))
 
-pub loop-at-init : goal.loop-at-init
-loop-at-init c = none_yet _ (omega (arith, c.if-s-eq0.false))
+pub loop-rest-init : goal.loop-rest-init
+loop-rest-init c = none_yet c.args.s.now (not-empty _ c.if-is_empty.ensures)
 
-pub overflow_add-result : goal.overflow_add-result
-overflow_add-result c =
-    omega (arith, c.loop-at.invariant.few, c.loop-at-test.true)
+pub returns-in_err-after : goal.returns-in_err-after
+returns-in_err-after c =
+    let p = err_from_is_err_and c.from_residual.result c.from_residual.ensures.1 in
+    let none = c.in_err-after.ensures.ok_part in
+    let q = rw none at c.in_err-after.ensures.value in
+    let row : c.in_err-after.field-0.0 ≡ record { row = c.loop-rest.count + 1 } = cc in
+    rw (p.1, p.2, row)
+    (then-faulty c.args.s.now c.loop-rest.count c.loop-rest.rest.now c.loop-rest.invariant (not-empty _ c.loop-rest-test.ensures)
+    (rw none at c.row_at.ensures))
 
-pub returns-then-not-r : goal.returns-then-not-r
-returns-then-not-r c =
-    let text = c.args.s.now in
-    then-faulty text c.loop-at.count c.loop-at.at c.loop-at.invariant c.row_at-r.result c.row_at-r.ensures c.loop-at-test.true (not-true _ c.if-not-r.true)
+pub loop-rest-smaller : goal.loop-rest-smaller
+loop-rest-smaller c =
+    let read = rw c.in_ok-after.ensures.ok_part at c.row_at.ensures in
+    omega (
+      arith,
+      shorter c.args.s.now c.loop-rest.count c.loop-rest.rest.now c.loop-rest.invariant (not-empty _ c.loop-rest-test.ensures) _ _ read,
+    )
 
-pub overflow_add-count : goal.overflow_add-count
-overflow_add-count c =
-    omega (arith, c.loop-at.invariant.few, c.loop-at-test.true)
-
-pub loop-at-smaller : goal.loop-at-smaller
-loop-at-smaller c =
-    let text = c.args.s.now in
-    let h : c.loop-at.at < length text = c.loop-at-test.true in
-    omega (arith, further text c.loop-at.count c.loop-at.at c.loop-at.invariant c.row_at-r.result c.row_at-r.ensures h (not-false _ c.if-not-r.false))
-
-pub loop-at-preserved : goal.loop-at-preserved
-loop-at-preserved c =
-    let text = c.args.s.now in
-    then-good text c.loop-at.count c.loop-at.at c.loop-at.invariant c.row_at-r.result c.row_at-r.ensures c.loop-at-test.true (not-false _ c.if-not-r.false)
-
-pub returns : goal.returns
-returns c =
-    let text = c.args.s.now in
-    all_read text c.loop-at.count c.loop-at.at c.loop-at.invariant c.loop-at-test.false
+pub loop-rest-preserved : goal.loop-rest-preserved
+loop-rest-preserved c =
+    let read = rw c.in_ok-after.ensures.ok_part at c.row_at.ensures in
+    then-good c.args.s.now c.loop-rest.count c.loop-rest.rest.now c.loop-rest.invariant (not-empty _ c.loop-rest-test.ensures) _ _ read

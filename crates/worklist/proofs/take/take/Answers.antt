@@ -1,51 +1,32 @@
 -- What the host gives, then the form of the file, then the number of its rows, then its rows.
-use mathlib.Core.Path.{◌≡◌, sym, ap, ◌∙◌}
-use native.Mathlib.Omega.{arith}
-use Rattle.sheet.specs.declared.Refusal.TheVariants.{Nothing}
-use Rattle.sheet.specs.Answers.{read_as}
+use mathlib.Core.Path.{◌∙◌}
+use Rattle.std.proofs.lemmas.Result.{err_from_is_err_and}
 use Rattle.sheet.proofs.Answered.{read-answered}
-use Rattle.worklist.proofs.Taking.{host-refused, good, empty, from-there, form-refused, no-fault, few, many-refused}
+use Rattle.worklist.proofs.Taking.{host-refused, sound, empty, from-there, form-refused, many-refused}
 use Rattle.worklist.proofs.take.take.Goals as goal
 
-pub returns-in_default : goal.returns-in_default
-returns-in_default c =
-    let a = c.args in
-    read-answered (c.refused_at.ensures
-    ∙ host-refused a.m a.calibrations.now a.s.now c.bare-b.result c.bare-b.ensures c.in_default.not-Nothing)
+pub returns-in_err-sheet : goal.returns-in_err-sheet
+returns-in_err-sheet c =
+    let p = err_from_is_err_and c.from_residual.result c.from_residual.ensures.1 in
+    read-answered (rw (p.1, p.2) (host-refused c.args.m c.args.calibrations.now c.args.s.now _ c.in_err-sheet.ensures))
 
-pub returns-then-f-ne0 : goal.returns-then-f-ne0
-returns-then-f-ne0 c =
-    let fine : c.bare-b.result.refusal ≡ Nothing = c.in-Nothing.is in
-    let a = c.args in
-    read-answered (c.refused_at-then-f-ne0.ensures
-    ∙ form-refused a.m a.calibrations.now a.s.now c.bare-b.result c.bare-b.ensures fine
-    c.rows_in-f.result c.rows_in-f.ensures (λ z. omega arith))
+pub returns-in_err-count : goal.returns-in_err-count
+returns-in_err-count c =
+    let p = err_from_is_err_and c.from_residual-in_err-count.result c.from_residual-in_err-count.ensures.1 in
+    read-answered (rw (p.1, p.2)
+    (form-refused c.args.m c.args.calibrations.now c.args.s.now c.in_ok-sheet.sheet c.in_ok-sheet.ensures _ c.in_err-count.ensures))
 
-pub returns-then-f-gt-BATCHES : goal.returns-then-f-gt-BATCHES
-returns-then-f-gt-BATCHES c =
-    let fine : c.bare-b.result.refusal ≡ Nothing = c.in-Nothing.is in
-    let a = c.args in
-    read-answered (c.refused_at-then-f-gt-BATCHES.ensures
-    ∙ many-refused a.m a.calibrations.now a.s.now c.bare-b.result c.bare-b.ensures fine
-    c.rows_in-f.result c.rows_in-f.ensures (omega arith) (omega arith))
+pub returns-then-count-gt-BATCHES : goal.returns-then-count-gt-BATCHES
+returns-then-count-gt-BATCHES c =
+    read-answered (many-refused c.args.m c.args.calibrations.now c.args.s.now c.in_ok-sheet.sheet c.in_ok-sheet.ensures
+    _ c.in_ok-count.ensures c.if-count-gt-BATCHES.true)
 
-pub enter-requires : goal.enter-requires
-enter-requires c =
-    let fine : c.bare-b.result.refusal ≡ Nothing = c.in-Nothing.is in
-    let a = c.args in record {
-      fact_1 = (good a.m a.calibrations.now a.s.now c.bare-b.result c.bare-b.ensures fine).sound;
-      fact_2 = (
-        empty a.m a.calibrations.now a.s.now c.bare-b.result c.bare-b.ensures fine,
-        no-fault a.m a.calibrations.now a.s.now c.bare-b.result c.bare-b.ensures fine
-            c.rows_in-f.result c.rows_in-f.ensures (omega arith),
-        few a.m a.calibrations.now a.s.now c.bare-b.result c.bare-b.ensures fine
-            c.rows_in-f.result c.rows_in-f.ensures (omega arith),
-      );
-    }
+pub enter-requires-clause-sound : goal.enter-requires-clause-sound
+enter-requires-clause-sound c = sound c.args.m c.args.calibrations.now c.args.s.now c.in_ok-sheet.sheet c.in_ok-sheet.ensures
+
+pub enter-requires-clause-empty : goal.enter-requires-clause-empty
+enter-requires-clause-empty c = empty c.args.m c.args.calibrations.now c.args.s.now c.in_ok-sheet.sheet c.in_ok-sheet.ensures
 
 pub returns : goal.returns
 returns c =
-    let fine : c.bare-b.result.refusal ≡ Nothing = c.in-Nothing.is in
-    let a = c.args in
-    read-answered (c.enter.ensures
-    ∙ ap read_as (sym (from-there a.m a.calibrations.now a.s.now c.bare-b.result c.bare-b.ensures fine)))
+    read-answered (c.enter.ensures ∙ from-there c.args.m c.args.calibrations.now c.args.s.now c.in_ok-sheet.sheet c.in_ok-sheet.ensures)

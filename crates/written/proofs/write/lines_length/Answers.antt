@@ -1,21 +1,13 @@
-use mathlib.Core.Path.{◌≡◌, sym, ap, ◌∙◌}
-use native.Mathlib.Omega.{arith}
-use Rattle.written.specs.Lines.{lines_length}
-use Rattle.written.proofs.Lines.{length_more, length_none}
+-- None of the lines has more than 1,555 bytes.
+use Rattle.std.proofs.Common.{◌≡◌, sum_by, rules, arith}
+use Rattle.std.proofs.lemmas.List.Sums.{sum_by-le}
+use Rattle.std.proofs.lemmas.Grind.{get_or_default_zero}
+use Rattle.written.specs.Lines.{line_length}
 use Rattle.written.proofs.write.lines_length.Goals as goal
-
-pub loop-b-init : goal.loop-b-init
-loop-b-init c = (sym (length_none c.args.counts.now), omega arith, omega arith)
-
-pub loop-b-preserved : goal.loop-b-preserved
-loop-b-preserved c =
-    let l = c.loop-b in
-    let a = c.args in
-    (omega (arith, l.invariant.0, c.line_length-sum.ensures.0, length_more a.counts.now l.b), omega arith, omega arith)
 
 pub returns : goal.returns
 returns c =
-    let l = c.loop-b in
-    let a = c.args in
-    let e : l.b ≡ a.n = omega arith in
-    (l.invariant.0 ∙ ap (lines_length a.counts.now) e, omega arith)
+    let counts = c.args.counts.now in
+    let e : c.sum.result ≡ sum_by line_length counts = search rules in
+    let most = sum_by-le line_length 1555 counts (λ k d h. omega (arith, get_or_default_zero counts k d h, c.type_inv.counts k)) in
+    (e, omega arith)

@@ -1,19 +1,13 @@
 -- What is refused stays so, and otherwise the sheet that is left is written.
-use mathlib.Core.Path.{◌∙◌}
+use Rattle.std.proofs.Common.{◌∙◌}
 use Rattle.written.proofs.Left.{left-refusal, left-sound, left-text}
 use Rattle.written.proofs.write.write_into.Goals as goal
 
-pub returns-then-refusal-ne0 : goal.returns-then-refusal-ne0
-returns-then-refusal-ne0 c =
-    let a = c.args in
-    left-refusal a.sheet.now a.journal.now _ c.left_by-l.ensures a.out.now c.if-refusal-ne0.true
-
 pub write-requires : goal.write-requires
-write-requires c =
-    let a = c.args in
-    left-sound a.sheet.now a.journal.now _ c.left_by-l.ensures c.if-refusal-ne0.false
+write-requires c = left-sound c.args.sheet.now c.args.journal.now _ c.in-Ok.ensures
 
-pub returns : goal.returns
-returns c =
-    let a = c.args in
-    c.write.ensures ∙ left-text a.sheet.now a.journal.now _ c.left_by-l.ensures a.out.now c.if-refusal-ne0.false
+pub returns-in-Ok : goal.returns-in-Ok
+returns-in-Ok c = c.hosted.ensures c.write.new.out ∙ c.write.ensures ∙ left-text c.args.sheet.now c.args.journal.now _ c.in-Ok.ensures c.args.out.now
+
+pub returns-in-Err : goal.returns-in-Err
+returns-in-Err c = rw c.from.ensures (left-refusal c.args.sheet.now c.args.journal.now c.args.out.now _ c.in-Err.ensures)
