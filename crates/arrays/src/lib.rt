@@ -28,6 +28,7 @@ pub struct Jobs<'a> {
 }
 
 // The place of each job, 0 for none, with the load of each machine.
+// Arrays as long as an instance can be, since nothing is on the heap, and 0 in place of an Option, as the rules' assignment has it.
 #[derive(Clone, Copy)]
 pub struct Placement {
     pub places: [u8; JOBS],

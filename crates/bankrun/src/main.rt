@@ -12,8 +12,7 @@
 
 use files::{JOURNAL, SHEET, buffer, put, read_both, refuse};
 use journal::print::print;
-use journal::run::Refused;
-use text::Hosted;
+use sheet::Refusal;
 
 fn main(rt: HostRuntime) {
     let mut out = rt.stdout();
@@ -31,8 +30,7 @@ fn main(rt: HostRuntime) {
         return;
     };
     if read.journal == JOURNAL {
-        let refused = Hosted::from(Refused::BadJournal(0));
-        refuse(&mut out, refused.refusal, 0);
+        refuse(&mut out, Refusal::BadJournal.into(), 0);
         return;
     }
     let mut text = buffer();

@@ -13,8 +13,7 @@
 #![tactic(auto)]
 
 use files::{JOURNAL, SHEET, buffer, put, read_both, refuse};
-use journal::run::Refused;
-use text::Hosted;
+use sheet::Refusal;
 use written::write::write_into;
 
 fn main(rt: HostRuntime) {
@@ -33,8 +32,7 @@ fn main(rt: HostRuntime) {
         return;
     };
     if read.journal == JOURNAL {
-        let refused = Hosted::from(Refused::BadJournal(0));
-        refuse(&mut err, refused.refusal, 0);
+        refuse(&mut err, Refusal::BadJournal.into(), 0);
         return;
     }
     let mut text = [0u8; 33958];

@@ -30,6 +30,7 @@ pub fn balance(sheet: Sheet, moves: &mut [Move]) -> Result<Reply<Balanced>, Refu
 }
 
 // Settle, from the standing places, likewise.
+// Apart from balance: a common body of two lines would take the core as a closure, and is no plainer.
 pub fn settle(sheet: Sheet, moves: &mut [Move]) -> Result<Reply<Settled>, Refusal>
     requires { Sound sheet }
     ensures { SettleAnswered (book_of sheet) moves.old result moves.new }

@@ -10,6 +10,7 @@ ghost use Rattle.fields.specs.Columns.{coded_field, below, digit_after, column_a
 // whether a blank is a fault is the caller's to say, so it is no Option and no Result.
 #[derive(Clone, Copy, Debug, PartialEq, Eq)]
 pub enum Field {
+    // A Result of an Option says the same in two layers, and `Value(t)` would be `Ok(Some(t))` at each caller.
     Value(u32),
     Blank,
     Fault,

@@ -15,6 +15,7 @@ use written::write::write;
 // What balance answers: the refusal's number, 0 for none, and its line, 0 for none and for 9; how many bytes the sheet that it leaves has;
 // its makespan, the lower bound, the level kept with the lifts and pushes of its trial, and the group of the highest failed level with
 // its size; and how many records there are. On a refusal all but the first two are 0.
+// Numbers alone, and an array with its size: the exported C function answers it as it is.
 #[repr(C)]
 #[derive(Clone, Copy)]
 pub struct BalanceFiled {
@@ -32,6 +33,7 @@ pub struct BalanceFiled {
 }
 
 // What settle answers, likewise: its makespan, its moves, and how many records there are.
+// The exported C function answers it as it is.
 #[repr(C)]
 #[derive(Clone, Copy)]
 pub struct SettleFiled {

@@ -64,6 +64,7 @@ pub fn bankplan_balance(sheet: &[u8], moves: &mut [Move], written: &mut [u8]) ->
 }
 
 // Settles a sheet of any bytes, likewise.
+// Apart from balance: each is what C calls, and answers a struct of its own.
 pub fn bankplan_settle(sheet: &[u8], moves: &mut [Move], written: &mut [u8]) -> SettleFiled
     ensures { SettleIs sheet.now moves.old written.old result moves.new written.new }
 {

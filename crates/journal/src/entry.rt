@@ -143,6 +143,7 @@ pub fn fault_line(s: &[u8]) -> Option<usize>
 {
     let mut at = 0;
     let mut line = 1;
+    // Kept a `while`: each line starts where the last one ended, which no range or iterator gives.
     while at < s.len() {
         let Some((_, next)) = entry_at(s, at) else {
             return Some(line);

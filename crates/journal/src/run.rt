@@ -29,14 +29,14 @@ impl From<Fault> for Refused {
     }
 }
 
-// Its number and its line. A journal's is 19.
+// Its number and its line.
 impl From<Refused> for Hosted {
     ghost from_gives = { λ refused hosted. hosted ≡ told refused };
 
     fn from(refused: Refused) -> Hosted {
         let (refusal, line) = match refused {
             Refused::BadSheet(fault) => (fault.refusal.into(), fault.line),
-            Refused::BadJournal(line) => (19, line),
+            Refused::BadJournal(line) => (Refusal::BadJournal.into(), line),
         };
         Hosted {
             refusal,

@@ -20,10 +20,7 @@ fn list_into(sheet: Sheet, out: &mut [u8]) -> Result<usize, Fault>
     let p = plan(sheet);
     let n = sheet.batches();
     if out.len() < listing_length(p.balanced.group.size, n) {
-        return Err(Fault {
-            refusal: Refusal::BufferShort,
-            line: 0,
-        });
+        return Err(Fault::from(Refusal::BufferShort));
     }
     let minutes = sheet.minutes();
     let places = p.settled.sheet.places();

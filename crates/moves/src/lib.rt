@@ -27,6 +27,7 @@ pub fn count(c: Change) -> usize
     requires { c.n ≤ 200 }
     ensures { (result ≡ length (records c.n c.old c.new)) × (result ≤ c.n) }
 {
+    // A `for`: with `filter` and `count` the proof did not close.
     let mut k = 0;
     for j in 0..c.n {
         if c.old[j] != c.new[j] {

@@ -15,6 +15,7 @@ use sheet::{Refusal, Sheet};
 use trials::trial::try_level;
 
 // The first n places, and zeros after them.
+// A copy into an array of another size, for which there is no method of the library.
 fn front(places: [u8; JOBS], n: usize) -> [u8; 200]
     requires { n ≤ 200 }
     ensures { result ≡ padded 200 (take n places) }

@@ -11,6 +11,7 @@ use sheet::Sheet;
 
 // How many machines and jobs; each job's minutes, and the machines that it may run on as a set and as marks; and where the jobs stand,
 // with loads of 0 past the last machine.
+// The arrays that `Jobs` lends: a struct cannot lend from itself. Nothing is on the heap.
 #[derive(Clone, Copy)]
 pub struct Laid {
     m: usize,

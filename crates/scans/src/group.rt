@@ -71,6 +71,7 @@ pub fn all_machines(m: usize) -> u32
 
 // The group of a trial of these jobs that failed with these loads and places, where the machine at index `over` is the lowest overloaded
 // one: all machines where none is underloaded, otherwise the closure of that one.
+// An inner function, so it takes `Jobs`, whose invariants say what its clause said.
 pub fn group_of(loads: &[u32], places: &[u8], jobs: &Jobs, low: &[u32], over: usize) -> u32
     requires { (jobs.now.m ≤ length loads.now) × (jobs.now.n ≤ length places.now) × (jobs.now.m ≤ length low.now) × (over < jobs.now.m) }
     ensures { (I : Instance) (lengths : List ℕ) → Reads I jobs.now.m jobs.now.n lengths jobs.now.masks.now

@@ -2,6 +2,7 @@
 use Prim.Native.Nat.{ℕ, suc, ◌+◌, ◌-◌, ◌≤◌, ◌<◌}
 use mathlib.Core.Path.{◌≡◌, refl, sym, ap, ◌∙◌}
 use mathlib.Core.Bool.{Bool, true, false}
+use mathlib.Core.List.{List}
 use native.Mathlib.Omega.{arith}
 use lib.ListN.{length, take, get_or}
 use lib.Dec.{ltb}
@@ -14,8 +15,8 @@ use Rattle.theory.proofs.Valid.{on-machine}
 use Rattle.theory.proofs.Small.{load-small}
 use Rattle.arrays.specs.declared.Jobs.{Jobs}
 use Rattle.arrays.specs.declared.Placement.{Placement}
-use Rattle.arrays.specs.Jobs.{Says}
-use Rattle.settling.specs.Settling.{other, Placing, Known}
+use Rattle.arrays.specs.Reads.{Reads}
+use Rattle.settling.specs.Settling.{other, Placed, Known}
 use Rattle.arrays.proofs.Take.{at_take, take_long}
 use Rattle.arrays.proofs.Entries.{at-index}
 
@@ -30,22 +31,26 @@ and-swap false false = refl
 abbrev pub others : Jobs → Placement → ℕ → ℕ → Bool
 others j p b i = other (at j.masks.now b) (at p.places b) i
 
-abbrev pub sooner : Jobs → Placement → ℕ → ℕ → Bool
-sooner j p b i = ltb (at p.loads i + at j.minutes.now b) (get_or p.loads (at p.places b - 1) 0) and others j p b i
+abbrev pub sooner-at : List ℕ → List ℕ → List ℕ → List ℕ → ℕ → ℕ → Bool
+sooner-at lengths sets places loads b i =
+    ltb (at loads i + at lengths b) (get_or loads (at places b - 1) 0) and other (at sets b) (at places b) i
 
-module _ {I : Instance} {j : Jobs} {p : Placement} (r : Says I j) (d : Placing I j p) where
+abbrev pub sooner : Jobs → Placement → ℕ → ℕ → Bool
+sooner j p b i = sooner-at j.minutes.now j.masks.now p.places p.loads b i
+
+module _ {I : Instance} {m c : ℕ} {lengths sets places loads : List ℕ} (r : Reads I m c lengths sets) (d : Placed I m c places loads) where
   -- a job's place is a machine
-  pub place_in : (b : ℕ) → 0 < b → b ≤ j.n → (0 < at p.places b) × (at p.places b ≤ j.m)
+  pub place_in : (b : ℕ) → 0 < b → b ≤ c → (0 < at places b) × (at places b ≤ m)
   place_in b l u =
       let z = on-machine r.valid d.permitted b l (omega (arith, r.jobs)) in
-      let e = at_take j.n p.places b u in
+      let e = at_take c places b u in
       (omega (arith, z.0, e), omega (arith, z.1, e, r.machines))
 
-  other-is : (b i : ℕ) → 0 < b → b ≤ j.n → 0 < i → i ≤ j.m → others j p b i ≡ elsewhere I (take j.n p.places) b i
+  other-is : (b i : ℕ) → 0 < b → b ≤ c → 0 < i → i ≤ m → other (at sets b) (at places b) i ≡ elsewhere I (take c places) b i
   unfolding other elsewhere
-  other-is b i bl bu il iu = rw (r.masks b i bl bu il (omega (arith, r.few)), at_take j.n p.places b bu)
+  other-is b i bl bu il iu = rw (r.masks b i bl bu il (omega (arith, r.few)), at_take c places b bu)
 
-  sooner-is : (b i : ℕ) → 0 < b → b ≤ j.n → 0 < i → i ≤ j.m → sooner j p b i ≡ improves_at I (take j.n p.places) b i
+  sooner-is : (b i : ℕ) → 0 < b → b ≤ c → 0 < i → i ≤ m → sooner-at lengths sets places loads b i ≡ improves_at I (take c places) b i
   unfolding improves_at
   sooner-is b i bl bu il iu =
       let z = place_in b bl bu in
@@ -53,23 +58,23 @@ module _ {I : Instance} {j : Jobs} {p : Placement} (r : Says I j) (d : Placing I
         other-is b i bl bu il iu,
         d.each i il iu,
         r.minutes b bl bu,
-        ← at-index p.loads (at p.places b) z.0,
-        d.each (at p.places b) z.0 z.1,
-        at_take j.n p.places b bu,
+        ← at-index loads (at places b) z.0,
+        d.each (at places b) z.0 z.1,
+        at_take c places b bu,
       )
-      (and-swap _ (elsewhere I (take j.n p.places) b i))
+      (and-swap _ (elsewhere I (take c places) b i))
 
-  pub improves-by : (b : ℕ) → 0 < b → b ≤ j.n → any_to j.m (λ i. sooner j p b i) ≡ improves I (take j.n p.places) b
+  pub improves-at : (b : ℕ) → 0 < b → b ≤ c → any_to m (λ i. sooner-at lengths sets places loads b i) ≡ improves I (take c places) b
   unfolding improves
-  improves-by b l u =
-      any-ext j.m _ _ (λ i il iu. sooner-is b i l u il iu)
-      ∙ ap (λ (k : ℕ). any_to k (λ i. improves_at I (take j.n p.places) b i)) (sym r.machines)
+  improves-at b l u =
+      any-ext m _ _ (λ i il iu. sooner-is b i l u il iu)
+      ∙ ap (λ (k : ℕ). any_to k (λ i. improves_at I (take c places) b i)) (sym r.machines)
 
-  pub target_is : (b : ℕ) → 0 < b → b ≤ j.n → least_to j.m (λ i. others j p b i) (λ i. at p.loads i) ≡ target I (take j.n p.places) b
+  pub target_is : (b : ℕ) → 0 < b → b ≤ c → least_to m (λ i. other (at sets b) (at places b) i) (λ i. at loads i) ≡ target I (take c places) b
   unfolding target
   target_is b l u =
-      least-ext j.m _ _ _ _ (λ i il iu. other-is b i l u il iu) d.each
-      ∙ ap (λ (k : ℕ). least_to k (λ i. elsewhere I (take j.n p.places) b i) (λ i. load I (take j.n p.places) i)) (sym r.machines)
+      least-ext m _ _ _ _ (λ i il iu. other-is b i l u il iu) d.each
+      ∙ ap (λ (k : ℕ). least_to k (λ i. elsewhere I (take c places) b i) (λ i. load I (take c places) i)) (sym r.machines)
 
 -- the ranges of what the code reads for the job at index b
 pub record InRange (j : Jobs) (p : Placement) (b : ℕ) : Type 0 where

@@ -41,7 +41,7 @@ shifted-kept I x l b i j w size p q long k e on i0 im jm =
     (kept_on I (put x b 0) (put l i (at l i - w)) b (length-put x b 0 ∙ size) p q (omega (arith, length-put l i (at l i - w)))
     (kept_off I x l b size p q long k w e i on i0 im) w e (suc j) (at-put-same x b 0 p (omega arith)) (omega arith) jm))
 
-module _ {I : Instance} {j : Jobs} {p : Placement} (r : Says I j) (d : Placing I j p) (k : ℕ) (e : mover I (take j.n p.places) ≡ suc k) where
+module _ {I : Instance} (j : Jobs) (p : Placement) (r : Says I j) (d : Placing I j p) (k : ℕ) (e : mover I (take j.n p.places) ≡ suc k) where
   pub due_in : k < j.n
   due_in = omega (arith, (mover-some I (take j.n p.places) k e).0, r.jobs)
 
@@ -101,4 +101,4 @@ module _ {I : Instance} {j : Jobs} {p : Placement} (r : Says I j) (d : Placing I
 
 -- what the code reads for the job that moves next
 pub due_range : {j : Jobs} {p : Placement} {k : ℕ} → Due j p (suc k) → InRange j p k
-due_range {k = k} d = in-range d.known k (due_in d.known.said.reads d.known.placing k d.next)
+due_range {j} {p} {k} d = in-range d.known k (due_in j p d.known.said.reads d.known.placing k d.next)

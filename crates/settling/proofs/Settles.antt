@@ -1,6 +1,7 @@
 -- Settling over arrays: what holds after some moves, what one more makes of it, and what stands at the end.
 use Prim.Native.Nat.{ℕ, zero, suc, ◌+◌, ◌*◌, ◌/◌, ◌≤◌}
 use mathlib.Core.Path.{◌≡◌, refl, sym, ap, ◌∙◌}
+use mathlib.Core.List.{List}
 use native.Mathlib.Numerals.{add-one}
 use native.Mathlib.Omega.{arith}
 use lib.ListN.{take, drop}
@@ -13,15 +14,16 @@ use Rattle.theory.proofs.Settling.{mover-some, move-lowers, run-still}
 use Rattle.arrays.specs.declared.Jobs.{Jobs}
 use Rattle.arrays.specs.declared.Placement.{Placement}
 use Rattle.arrays.specs.Jobs.{Says}
-use Rattle.settling.specs.Settling.{Placing, Moved, SettledTo}
+use Rattle.arrays.specs.Reads.{Reads}
+use Rattle.settling.specs.Settling.{Placed, Placing, Moved, SettledTo}
 
 -- the sum of squared loads
-pub squares-are : {I : Instance} {j : Jobs} {p : Placement} → Says I j → Placing I j p
-    → sum_to j.m (λ i. at p.loads i * at p.loads i) ≡ squares I (take j.n p.places)
+pub squares-are : {I : Instance} {m c : ℕ} {lengths sets places loads : List ℕ} → Reads I m c lengths sets → Placed I m c places loads
+    → sum_to m (λ i. at loads i * at loads i) ≡ squares I (take c places)
 unfolding squares
-squares-are {I} {j} {p} r d =
-    sum_to-ext j.m _ _ (λ i l u. rw (d.each i l u))
-    ∙ ap (λ (k : ℕ). sum_to k (λ i. load I (take j.n p.places) i * load I (take j.n p.places) i)) (sym r.machines)
+squares-are {I} {m} {c} {places = places} r d =
+    sum_to-ext m _ _ (λ i l u. rw (d.each i l u))
+    ∙ ap (λ (k : ℕ). sum_to k (λ i. load I (take c places) i * load I (take c places) i)) (sym r.machines)
 
 -- ---- the run
 

@@ -23,11 +23,14 @@ other mask place i = has mask i and not (eqb i place)
 abbrev pub shifted : List ℕ → ℕ → ℕ → ℕ → List ℕ
 shifted l i j w = let left = set l i (get_or l i 0 - w) in set left j (get_or left j 0 + w)
 
--- each of the jobs has a place that it may have, and the loads of the machines stand beside
-pub record Placing (I : Instance) (j : Jobs) (p : Placement) : Type 0 where
-  pub permitted : Permitted I (take j.n p.places)
-  pub long : j.m ≤ length p.loads
-  pub each : (i : ℕ) → 0 < i → i ≤ j.m → at p.loads i ≡ load I (take j.n p.places) i
+-- each of c jobs has a place that it may have, and the loads of the m machines stand beside
+pub record Placed (I : Instance) (m c : ℕ) (places loads : List ℕ) : Type 0 where
+  pub permitted : Permitted I (take c places)
+  pub long : m ≤ length loads
+  pub each : (i : ℕ) → 0 < i → i ≤ m → at loads i ≡ load I (take c places) i
+
+abbrev pub Placing : Instance → Jobs → Placement → Type 0
+Placing I j p = Placed I j.m j.n p.places p.loads
 
 -- the jobs say some instance
 pub record Said (j : Jobs) : Type 0 where

@@ -5,7 +5,8 @@ ghost use Rattle.rules.specs.Instance.{Instance};
 ghost use Rattle.rules.specs.Load.{improves};
 ghost use Rattle.arrays.specs.Found.{found};
 ghost use Rattle.arrays.specs.Jobs.{Says};
-ghost use Rattle.settling.specs.Settling.{other, placed, Placing, Known};
+ghost use Rattle.arrays.specs.Reads.{Reads};
+ghost use Rattle.settling.specs.Settling.{other, placed, Placed, Placing, Known};
 
 use arrays::sets::is_in;
 use arrays::{Jobs, Placement};
@@ -21,8 +22,9 @@ pub fn is_other(mask: u32, place: u8, i: usize) -> bool
 // The job at index b would finish earlier on another machine.
 pub fn improves(jobs: &Jobs, places: &[u8], loads: &[u32], b: usize) -> bool
     requires { Known jobs.now (placed places.now loads.now) × (b < jobs.now.n) }
-    ensures { (I : Instance) → Says I jobs.now → Placing I jobs.now (placed places.now loads.now)
-        → result ≡ improves I (take jobs.now.n places.now) (suc b) }
+    ensures within { b < jobs.now.n }
+    ensures same { (I : Instance) (n : ℕ) → Reads I jobs.now.m n jobs.now.minutes.now jobs.now.masks.now
+        → Placed I jobs.now.m n places.now loads.now → b < n → result ≡ improves I (take n places.now) (suc b) }
 {
     let w = u32::from(jobs.minutes[b]);
     let mask = jobs.masks[b];

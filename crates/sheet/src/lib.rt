@@ -72,6 +72,9 @@ impl From<Refusal> for Fault {
     }
 }
 
+// `Sound` is no invariant of this type: `new`, `empty`, `of_arrays` and `append` promise sheets that are not sound. Numbers, arrays and a count:
+// `of_arrays` takes them so, and nothing is on the heap.
+//
 // What a sheet holds, in arrays: a calibration for each instrument, 0 for none, and the batches, 1 in started for each that has started;
 // batch b's list starts at 24 (b - 1) in lists. Whatever is not used is 0.
 #[derive(Clone, Copy)]
@@ -164,6 +167,7 @@ impl Sheet {
 }
 
 // The count entries from at on become the first of part.
+// Kept as a function: a public one, whose promise (`paste`) its callers' proofs cite.
 pub fn enter_part(a: &mut [u8], at: usize, part: &[u8], count: usize)
     requires fact_1 { at + count ≤ length a.old }
     requires fact_2 { count ≤ length part.now }

@@ -14,6 +14,7 @@ pub mod step;
 pub mod trial;
 
 // A low and a high limit of load for each machine.
+// Two slices, as long as whoever runs a trial likes: one of pairs would ask more of callers.
 #[derive(Clone, Copy)]
 pub struct Bounds<'a> {
     pub low: &'a [u32],

@@ -61,10 +61,7 @@ pub fn take(m: u32, calibrations: &[u32], s: &[u8]) -> Result<Sheet, Fault>
     let sheet = Sheet::bare(m, calibrations)?;
     let count = rows_in(s)?;
     if Sheet::BATCHES < count {
-        return Err(Fault {
-            refusal: Refusal::BadSize,
-            line: 0,
-        });
+        return Err(Fault::from(Refusal::BadSize));
     }
     enter(sheet, s)
 }

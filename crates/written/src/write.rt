@@ -72,10 +72,7 @@ pub fn write(sheet: Sheet, out: &mut [u8]) -> Result<usize, Fault>
     let start = 6 * m + 14;
     let length = start + lines_length(&sheet.counts()[..n]);
     if out.len() < length {
-        return Err(Fault {
-            refusal: Refusal::BufferShort,
-            line: 0,
-        });
+        return Err(Fault::from(Refusal::BufferShort));
     }
     put_pair(out, m as u32, n as u32);
     let calibrations = sheet.calibrations();

@@ -12,7 +12,7 @@ listing_length-requires c =
 
 pub returns-then-out-listing_length : goal.returns-then-out-listing_length
 returns-then-out-listing_length c =
-    listed-short (book_of c.args.sheet) _ (omega (arith, listed-length _ c.requires _ c.plan-p.ensures, c.batches-n.ensures))
+    rw c.from.ensures (listed-short (book_of c.args.sheet) _ (omega (arith, listed-length _ c.requires _ c.plan-p.ensures, c.batches-n.ensures)))
 
 pub places-places-requires : goal.places-places-requires
 places-places-requires c = plan-sound _ c.requires _ c.plan-p.ensures

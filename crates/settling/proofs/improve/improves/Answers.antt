@@ -7,7 +7,7 @@ use Rattle.rules.specs.Fold.{◌and◌}
 use Rattle.std.proofs.iter.Serving.{serving}
 use Rattle.std.proofs.lemmas.Iterator.Search.{any_from_yields_List}
 use Rattle.settling.specs.Settling.{placed}
-use Rattle.settling.proofs.Placing.{sooner, in-range, improves-by}
+use Rattle.settling.proofs.Placing.{sooner, in-range, improves-at}
 use Rattle.settling.proofs.Ranges.{below, any_range}
 use Rattle.settling.proofs.improve.improves.Goals as goal
 
@@ -28,7 +28,10 @@ returns c =
     let j = c.args.jobs.now in
     let p = placed c.args.places.now c.args.loads.now in
     let b = suc c.args.b in
-    λ I r d.
-    any_from_yields_List (λ i. sooner j p b (suc i)) _ _ _ c.any.ensures.ran (below j.m refl) (λ x t q h. search (rules, tests))
-    ∙ any_range (sooner j p b) j.m
-    ∙ improves-by r d b (omega arith) c.requires.1
+    record {
+      within = c.requires.1;
+      same = λ I n r d u.
+          any_from_yields_List (λ i. sooner j p b (suc i)) _ _ _ c.any.ensures.ran (below j.m refl) (λ x t q h. search (rules, tests))
+          ∙ any_range (sooner j p b) j.m
+          ∙ improves-at r d b (omega arith) u;
+    }

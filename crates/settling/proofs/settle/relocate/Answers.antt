@@ -11,20 +11,20 @@ least_other-requires c = let k = due_range c.requires in omega arith
 pub unwrap-j-requires : goal.unwrap-j-requires
 unwrap-j-requires c =
     let d = c.requires.known in
-    rw c.least_other.ensures (some_found _ (goes_some d.said.reads d.placing c.args.k c.requires.next))
+    rw c.least_other.ensures (some_found _ (goes_some c.args.jobs.now c.args.placement.now d.said.reads d.placing c.args.k c.requires.next))
 
 pub shift-requires : goal.shift-requires
 shift-requires c =
     let d = c.requires.known in
     let k = due_range c.requires in
-    let g = goes_in d.said.reads d.placing c.args.k c.requires.next c.unwrap-j.result (sym c.unwrap-j.ensures ∙ c.least_other.ensures) in
+    let g = goes_in c.args.jobs.now c.args.placement.now d.said.reads d.placing c.args.k c.requires.next c.unwrap-j.result (sym c.unwrap-j.ensures ∙ c.least_other.ensures) in
     record {
       on_a_machine = (omega arith, omega arith, omega arith, omega arith);
-      loaded = loaded d.said.reads d.placing c.args.k c.requires.next;
+      loaded = loaded c.args.jobs.now c.args.placement.now d.said.reads d.placing c.args.k c.requires.next;
       room = omega (arith, k.small c.unwrap-j.result g);
     }
 
 pub returns : goal.returns
 returns c = λ I r d e.
-    relocated r d c.args.k e c.unwrap-j.result (sym c.unwrap-j.ensures ∙ c.least_other.ensures) c.shift.new.placement
+    relocated c.args.jobs.now c.args.placement.now r d c.args.k e c.unwrap-j.result (sym c.unwrap-j.ensures ∙ c.least_other.ensures) c.shift.new.placement
     c.shift.ensures.places_after c.shift.ensures.loads_after

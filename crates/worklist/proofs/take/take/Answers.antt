@@ -18,8 +18,8 @@ returns-in_err-count c =
 
 pub returns-then-count-gt-BATCHES : goal.returns-then-count-gt-BATCHES
 returns-then-count-gt-BATCHES c =
-    read-answered (many-refused c.args.m c.args.calibrations.now c.args.s.now c.in_ok-sheet.sheet c.in_ok-sheet.ensures
-    _ c.in_ok-count.ensures c.if-count-gt-BATCHES.true)
+    read-answered (rw c.from.ensures (many-refused c.args.m c.args.calibrations.now c.args.s.now c.in_ok-sheet.sheet c.in_ok-sheet.ensures
+    _ c.in_ok-count.ensures c.if-count-gt-BATCHES.true))
 
 pub enter-requires-clause-sound : goal.enter-requires-clause-sound
 enter-requires-clause-sound c = sound c.args.m c.args.calibrations.now c.args.s.now c.in_ok-sheet.sheet c.in_ok-sheet.ensures

@@ -11,7 +11,7 @@ use Rattle.written.proofs.write.write.Goals as goal
 pub returns-then-out-length : goal.returns-then-out-length
 returns-then-out-length c =
     let file = file-length c.args.sheet c.requires _ _ _ _ c.instruments-m.ensures c.batches-n.ensures c.counts.ensures c.lines_length.ensures.0 in
-    into-short (written (book_of c.args.sheet)) c.args.out.now (omega (arith, file.0, c.if-out-length.true))
+    rw c.from.ensures (into-short (written (book_of c.args.sheet)) c.args.out.now (omega (arith, file.0, c.if-out-length.true)))
 
 pub slice_bounds-put_line-end : goal.slice_bounds-put_line-end
 slice_bounds-put_line-end c =
