@@ -35,7 +35,7 @@ pub fn review(sheet: Sheet) -> Reviewed
     Reviewed {
         loads: a.start.loads,
         makespan: largest_load(&a.start.loads, jobs.m),
-        improving: first_improving(&jobs, &a.start).map(|b| b + 1),
+        improving: first_improving(&jobs, &a.start.places, &a.start.loads).map(|b| b + 1),
     }
 }
 

@@ -16,7 +16,7 @@ use Rattle.theory.proofs.Small.{load-small}
 use Rattle.arrays.specs.declared.Jobs.{Jobs}
 use Rattle.arrays.specs.declared.Placement.{Placement}
 use Rattle.arrays.specs.Reads.{Reads}
-use Rattle.settling.specs.Settling.{other, Placed, Known}
+use Rattle.settling.specs.Settling.{other, Placed, Known, KnownIn}
 use Rattle.arrays.proofs.Take.{at_take, take_long}
 use Rattle.arrays.proofs.Entries.{at-index}
 
@@ -77,27 +77,38 @@ module _ {I : Instance} {m c : ℕ} {lengths sets places loads : List ℕ} (r : 
       ∙ ap (λ (k : ℕ). least_to k (λ i. elsewhere I (take c places) b i) (λ i. load I (take c places) i)) (sym r.machines)
 
 -- the ranges of what the code reads for the job at index b
-pub record InRange (j : Jobs) (p : Placement) (b : ℕ) : Type 0 where
-  pub within : b < j.n
-  pub held : b < length p.places
-  pub long : j.m ≤ length p.loads
-  pub few : j.m ≤ 24
-  pub placed : 0 < get_or p.places b 0
-  pub numbered : get_or p.places b 0 ≤ j.m
-  pub takes : get_or j.minutes.now b 0 ≤ 1440
-  pub small : (i : ℕ) → i < j.m → get_or p.loads i 0 ≤ 322560
+pub record InLists (m c : ℕ) (lengths places loads : List ℕ) (b : ℕ) : Type 0 where
+  pub within : b < c
+  pub held : b < length places
+  pub long : m ≤ length loads
+  pub few : m ≤ 24
+  pub placed : 0 < get_or places b 0
+  pub numbered : get_or places b 0 ≤ m
+  pub takes : get_or lengths b 0 ≤ 1440
+  pub small : (i : ℕ) → i < m → get_or loads i 0 ≤ 322560
 
-pub in-range : {j : Jobs} {p : Placement} → Known j p → (b : ℕ) → b < j.n → InRange j p b
-in-range {j} {p} k b u =
-    let r = k.said.reads in
-    let z = place_in r k.placing (suc b) (omega arith) u in
+pub in_lists : {I : Instance} {m c : ℕ} {lengths sets places loads : List ℕ} → Reads I m c lengths sets → Placed I m c places loads
+    → (b : ℕ) → b < c → InLists m c lengths places loads b
+in_lists {c = c} {places = places} r d b u =
+    let z = place_in r d (suc b) (omega arith) u in
     record {
       within = u;
-      held = omega (arith, take_long j.n p.places (omega (arith, k.placing.permitted.size, r.jobs)));
-      long = k.placing.long;
+      held = omega (arith, take_long c places (omega (arith, d.permitted.size, r.jobs)));
+      long = d.long;
       few = r.few;
       placed = z.0;
       numbered = z.1;
       takes = omega (arith, r.minutes (suc b) (omega arith) u, r.small.short (suc b));
-      small = λ i l. omega (arith, k.placing.each (suc i) (omega arith) l, load-small r.small (take j.n p.places) (suc i));
+      small = λ i l. omega (arith, d.each (suc i) (omega arith) l, load-small r.small (take c places) (suc i));
     }
+
+abbrev pub InRange : Jobs → Placement → ℕ → Type 0
+InRange j p b = InLists j.m j.n j.minutes.now p.places p.loads b
+
+pub in-range : {j : Jobs} {p : Placement} → Known j p → (b : ℕ) → b < j.n → InRange j p b
+in-range k b u = in_lists k.said.reads k.placing b u
+
+-- so of their lists
+pub known_in : {j : Jobs} {p : Placement} → Known j p → j.n ≤ length j.minutes.now → j.n ≤ length j.masks.now
+    → KnownIn j.m j.n j.minutes.now j.masks.now p.places p.loads
+known_in k t l = record { I = k.said.I; reads = k.said.reads; timed = t; listed = l; placing = k.placing }

@@ -9,6 +9,7 @@ use Rattle.arrays.specs.declared.Jobs.{Jobs}
 use Rattle.arrays.specs.declared.Placement.{Placement}
 use Rattle.arrays.specs.Found.{found}
 use Rattle.arrays.specs.Jobs.{Says}
+use Rattle.arrays.specs.Reads.{Reads}
 use Rattle.arrays.specs.Sets.{has}
 
 -- places with the loads beside them, of any length
@@ -41,6 +42,14 @@ pub record Said (j : Jobs) : Type 0 where
 pub record Known (j : Jobs) (p : Placement) : Type 0 where
   pub said : Said j
   pub placing : Placing said.I j p
+
+-- some instance of c jobs that lists of any length say, with a placement and its loads
+pub record KnownIn (m c : ℕ) (lengths sets places loads : List ℕ) : Type 0 where
+  pub I : Instance
+  pub reads : Reads I m c lengths sets
+  pub timed : c ≤ length lengths
+  pub listed : c ≤ length sets
+  pub placing : Placed I m c places loads
 
 -- job b is the one that moves next
 pub record Due (j : Jobs) (p : Placement) (b : ℕ) : Type 0 where

@@ -8,7 +8,7 @@ ghost use Rattle.arrays.specs.Found.{found};
 ghost use Rattle.arrays.specs.Jobs.{Says};
 ghost use Rattle.settling.specs.Settling.{other, placed, Placing, Known, shifted, Due, Moved, SettledTo};
 
-use crate::improve::{improves, is_other};
+use crate::improve::{is_other, job_improves};
 use arrays::{Jobs, Placement};
 use std::cmp::Reverse;
 
@@ -26,7 +26,7 @@ pub fn mover(jobs: &Jobs, places: &[u8], loads: &[u32]) -> Option<usize>
         → result ≡ found (mover I (take jobs.now.n places.now)) }
 {
     (0..jobs.n)
-        .filter(|b| improves(jobs, places, loads, *b))
+        .filter(|b| job_improves(jobs, places, loads, *b))
         .min_by_key(|b| Reverse(jobs.minutes[*b]))
 }
 

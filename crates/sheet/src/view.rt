@@ -97,6 +97,8 @@ impl Sheet {
     }
 
     // Each batch that has not started on its place in x where its list has that, and on the first listed otherwise; each other where it is.
+    // Its frame has two sheets: apart, they do not stand beneath a planning.
+    #[inline(never)]
     pub fn with_places(mut self, x: [u8; 200]) -> Sheet
         requires { Sound self }
         ensures { (result ≡ sheet_of (with_places (book_of self) (kept_places (book_of self) x))) × Sound result }

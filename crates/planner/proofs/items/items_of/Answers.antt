@@ -15,6 +15,6 @@ pub returns : goal.returns
 returns c =
     let k = book_of c.args.sheet in
     c.with_calibrations.ensures k.batches
-    (batches-laid k.batches (view-batches c.args.sheet c.requires) c.batches.ensures (c.copy_from_slice.ensures.after ∙ c.minutes.ensures)
-    (c.copy_from_slice-2.ensures.after ∙ c.places.ensures) (c.copy_from_slice-3.ensures.after ∙ c.eligibility.ensures))
+    (batches-laid k.batches (view-batches c.args.sheet c.requires) c.batches.ensures (c.copy_from_slice.ensures.after ∙ c.minutes-lengths.ensures)
+    (c.copy_from_slice-2.ensures.after ∙ c.places-stands.ensures) (c.copy_from_slice-3.ensures.after ∙ c.eligibility-eligible.ensures))
     ∙ calibrations-shown k c.instruments.ensures c.calibrations.ensures

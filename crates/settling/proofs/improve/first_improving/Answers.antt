@@ -7,6 +7,7 @@ use Rattle.rules.specs.Load.{improves}
 use Rattle.std.proofs.lemmas.Iterator.Adapters.{option_map_id}
 use Rattle.std.proofs.lemmas.Iterator.{serves_from_Range}
 use Rattle.std.proofs.lemmas.Iterator.Search.{find_from_yields_List}
+use Rattle.settling.specs.Settling.{placed}
 use Rattle.settling.proofs.Ranges.{below, find_range}
 use Rattle.settling.proofs.improve.first_improving.Goals as goal
 
@@ -16,7 +17,7 @@ find-requires-clause-callable c = serves_from_Range (λ x q h. search rules) (λ
 pub returns : goal.returns
 returns c =
     let j = c.args.jobs.now in
-    let p = c.args.placement.now in
+    let p = placed c.args.places.now c.args.loads.now in
     λ I r d.
     sym (option_map_id c.find.result)
     ∙ find_from_yields_List (λ b. improves I (take j.n p.places) (suc b)) _ _ c.find.result c.find.ensures.ran

@@ -28,7 +28,7 @@ pub returns-in_err-row : goal.returns-in_err-row
 returns-in_err-row c =
     let p = err_from_is_err_and c.from_residual.result c.from_residual.ensures.1 in
     rw (p.1, p.2)
-    (row-unfit c.args.self.now c.requires.fact_1 _ (passed c.within.ensures c.if-not-within.false-raw) c.if-mark-gt1.false c.in_err-row.ensures)
+    (row-unfit c.args.self.now c.requires.fact_1 _ (passed c.within.ensures c.if-not-within.false-raw) (omega arith) c.in_err-row.ensures)
 
 pub listed-requires : goal.listed-requires
 listed-requires c =
@@ -38,7 +38,7 @@ listed-requires c =
 
 pub returns-then-not-listed : goal.returns-then-not-listed
 returns-then-not-listed c =
-    row-place c.args.self.now c.requires.fact_1 _ (passed c.within.ensures c.if-not-within.false-raw) c.if-mark-gt1.false
+    row-place c.args.self.now c.requires.fact_1 _ (passed c.within.ensures c.if-not-within.false-raw) (omega arith)
     _ (is-fit c.args.self.now.m c.args.list.now c.in_ok-row.ensures) _ c.place_or-p.ensures
     (failed c.listed.ensures c.if-not-listed.true-raw)
 
@@ -65,6 +65,6 @@ append-requires c = omega (arith, c.requires.fact_2, book-size c.args.self.now)
 
 pub returns : goal.returns
 returns c =
-    row_done c.args.self.now c.requires.fact_1 _ (passed c.within.ensures c.if-not-within.false-raw) c.if-mark-gt1.false
+    row_done c.args.self.now c.requires.fact_1 _ (passed c.within.ensures c.if-not-within.false-raw) (omega arith)
     _ (is-fit c.args.self.now.m c.args.list.now c.in_ok-row.ensures) _ c.place_or-p.ensures
     _ (omega (arith, c.requires.fact_2, book-size c.args.self.now)) (passed c.listed.ensures c.if-not-listed.false-raw) c.append.ensures
